@@ -1,0 +1,10 @@
+pub mod Refusal
+pub mod Expression
+pub mod Distinct
+pub mod Language
+pub mod Derivative
+pub mod Automaton
+pub mod Table
+pub mod Grammar
+pub mod Scan
+pub mod Record

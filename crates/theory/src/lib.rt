@@ -1,0 +1,1 @@
+// Definitions (specs/) and laws (proofs/). The crate has no function.
