@@ -42,6 +42,11 @@ unfoldable pub states : Expression → List Expression
 unfolding rounds letters
 states e = rounds (2 ^ length (letters e)) e (e ∷ [])
 
+-- 004, "Partial Derivatives": `Derived e m` says that m is in ∂(e), the partial derivatives of e by all words.
+pub data Derived (e : Expression) : Expression → Type 0 where
+  itself : {m : Expression} → m ≡ e → Derived e m
+  onward : {x m : Expression} → Derived e x → List·Memᴰ m (successors x) → Derived e m
+
 -- 01: "A state is accepting when its language holds the empty word", as the accepting column has it: "accepting 0 or 1".
 unfoldable pub accepting : Expression → List ℕ
 unfolding empty-word states
