@@ -1,4 +1,5 @@
 pub mod Refusal
+pub mod Column
 pub mod Expression
 pub mod Distinct
 pub mod Language
