@@ -3,6 +3,7 @@
 ghost use mathlib.Core.Path.{_≡_};
 ghost use lib.ListN.{length};
 ghost use Rattle.theory.specs.Column.{zeros};
+ghost use Rattle.columns.specs.Cursor.{step-at};
 
 // 01: "sets all lent output and work columns to zero". One function for each width.
 pub fn clear8(column: &mut [u8])
@@ -32,5 +33,35 @@ pub fn clear64(column: &mut [u64])
     while i < column.len() {
         column[i] = 0;
         i += 1;
+    }
+}
+
+// 01: "The text place and the record place are each a small cursor, handed in and handed back."
+pub struct Cursor {
+    pub at: usize,
+}
+
+// What stands at a cursor: a byte, with the cursor behind it, or the end.
+pub enum Step {
+    Byte(u8, Cursor),
+    End,
+}
+
+impl Cursor {
+    pub fn start() -> Self
+        ensures { λ r. ⌜ r .at ≡ 0 ⌝ }
+    {
+        Cursor { at: 0 }
+    }
+
+    pub fn step(self, bytes: &[u8]) -> Step
+        ensures { λ r. ⌜ r ≡ step-at (now (bytes .entry)) (self .at) ⌝ }
+    {
+        let at = self.at;
+        if at < bytes.len() {
+            Step::Byte(bytes[at], Cursor { at: at + 1 })
+        } else {
+            Step::End
+        }
     }
 }

@@ -1,2 +1,3 @@
+pub mod Below
 pub mod Distinct
 pub mod Examples

@@ -1,0 +1,56 @@
+// A set of states in 64-bit words, one bit per state.
+
+ghost use mathlib.Core.Path.{_≡_};
+ghost use mathlib.Core.Bool.{Bool, false, cond, _||_};
+ghost use Prim.Native.Nat.{ℕ, _+_, _*_, _/_, _≤_, _<_};
+ghost use lib.ListN.{length};
+ghost use lib.Dec.{eqb, ltb};
+ghost use Rattle.theory.specs.Record.{some-below, count-below};
+ghost use Rattle.matcher.specs.Bits.{bit};
+
+pub fn marked(words: &[u64], state: usize) -> bool
+    requires { ⌜ state / 64 < length (now words) ⌝ }
+    ensures { λ r. ⌜ r ≡ bit (now (words .entry)) state ⌝ }
+{
+    (words[state / 64] >> (state % 64)) % 2 == 1
+}
+
+pub fn mark(words: &mut [u64], state: usize)
+    requires { ⌜ state / 64 < length (now words) ⌝ }
+    ensures { λ _. ⌜ ((t : ℕ) → bit (now (words .exit)) t ≡ (eqb t state || bit (now (words .entry)) t)) ⌝ }
+{
+    let word = state / 64;
+    words[word] = words[word] | (1u64 << (state % 64));
+}
+
+// 01: `live` is "the number of set state bits after the last byte".
+pub fn count(words: &[u64]) -> usize
+    ensures { λ r. ⌜ r ≡ count-below (length (now (words .entry)) * 64) (bit (now (words .entry))) ⌝ }
+{
+    let mut n: usize = 0;
+    let mut i = 0;
+    while i < words.len() {
+        n += u64::count_ones(words[i]) as usize;
+        i += 1;
+    }
+    n
+}
+
+// The first n words of `next` are handed to `now` and cleared. Whether one of their bits was set.
+pub fn turn(n: usize, current: &mut [u64], next: &mut [u64]) -> bool
+    requires { ⌜ (n ≤ length (now current)) × (n ≤ length (now next)) ⌝ }
+    ensures handed { λ _. ⌜ ((t : ℕ) → bit (now (current .exit)) t ≡ cond (ltb (t / 64) n) (bit (now (next .entry)) t) (bit (now (current .entry)) t)) ⌝ }
+    ensures cleared { λ _. ⌜ ((t : ℕ) → bit (now (next .exit)) t ≡ cond (ltb (t / 64) n) false (bit (now (next .entry)) t)) ⌝ }
+    ensures set { λ r. ⌜ r ≡ some-below (n * 64) (bit (now (next .entry))) ⌝ }
+{
+    let mut any = false;
+    let mut i = 0;
+    while i < n {
+        let word = next[i];
+        any = any || word != 0;
+        current[i] = word;
+        next[i] = 0;
+        i += 1;
+    }
+    any
+}

@@ -1,0 +1,67 @@
+// Refusals 1, 10 and 11: what an automaton that is handed over must be.
+
+ghost use mathlib.Core.Path.{_≡_};
+ghost use mathlib.Core.Bool.{not, _&&_};
+ghost use Prim.Native.Nat.{_≤_, _<_};
+ghost use lib.ListN.{length, getD};
+ghost use lib.Dec.{leb, ltb, eqb};
+ghost use Rattle.theory.specs.Record.{handed, all-below, accepting-fits, ends-fit, well-formed, matcher-refusal};
+
+fn accepting_fits(states: usize, accepting: &[u8]) -> bool
+    requires { ⌜ states ≤ length (now accepting) ⌝ }
+    ensures { λ r. ⌜ r ≡ all-below states (λ t. leb (getD (now (accepting .entry)) t 0) 1) ⌝ }
+{
+    let mut fit = true;
+    let mut t = 0;
+    while t < states {
+        fit = fit && accepting[t] <= 1;
+        t += 1;
+    }
+    fit
+}
+
+fn ends_fit(states: usize, arcs: usize, from: &[u16], letter: &[u8], to: &[u16]) -> bool
+    requires { ⌜ (arcs ≤ length (now from)) × (arcs ≤ length (now letter)) × (arcs ≤ length (now to)) ⌝ }
+    ensures {
+        λ r.
+        ⌜ r ≡ all-below arcs
+          (λ i. ltb (getD (now (from .entry)) i 0) states && ltb (getD (now (to .entry)) i 0) states
+          && not (eqb (getD (now (letter .entry)) i 0) 0)) ⌝
+    }
+{
+    let mut fit = true;
+    let mut i = 0;
+    while i < arcs {
+        fit = fit && (from[i] as usize) < states && (to[i] as usize) < states && letter[i] != 0;
+        i += 1;
+    }
+    fit
+}
+
+// The number of the refusal, or 0.
+pub fn refusal(
+    states: usize,
+    accepting: &[u8],
+    arcs: usize,
+    from: &[u16],
+    letter: &[u8],
+    to: &[u16],
+    current_words: usize,
+    next_words: usize,
+) -> u8
+{
+    if letter.len() != from.len() || to.len() != from.len() {
+        return 1;
+    }
+    if states == 0 || 65535 < states || accepting.len() < states || from.len() < arcs || 16777216 < arcs {
+        return 10;
+    }
+    if !accepting_fits(states, accepting) || !ends_fit(states, arcs, from, letter, to) {
+        return 10;
+    }
+    let words = (states + 63) / 64;
+    if current_words < words || next_words < words {
+        return 11;
+    }
+    0
+}

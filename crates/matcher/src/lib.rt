@@ -1,0 +1,47 @@
+// The matcher: judges a record over any automaton that it is handed, and trusts none of it.
+
+mod bits;
+mod checks;
+mod moves;
+
+ghost use lib.ListN.{length};
+ghost use Rattle.theory.specs.Record.{handed, Judged};
+ghost use Rattle.matcher.specs.Answer.{values};
+
+// 01, "Reading a record": refused with 1, 10 or 11 (place 0), or a verdict.
+pub enum Judgement {
+    Refused { number: u8 },
+    Accepted { live: usize },
+    Unfinished { live: usize },
+    Wrong { place: usize },
+}
+
+pub fn judge(
+    states: usize,
+    accepting: &[u8],
+    arcs: usize,
+    from: &[u16],
+    letter: &[u8],
+    to: &[u16],
+    record: &[u8],
+    current: &mut [u64],
+    next: &mut [u64],
+) -> Judgement
+    ensures {
+        λ r.
+        ⌜ Judged (handed states (now (accepting .entry)) arcs (now (from .entry)) (now (letter .entry)) (now (to .entry)))
+          (now («record» .entry)) (now (current .entry)) (now (next .entry)) (values r) (now (current .exit)) (now (next .exit)) ⌝
+    }
+{
+    let number = checks::refusal(states, accepting, arcs, from, letter, to, current.len(), next.len());
+    columns::clear64(current);
+    columns::clear64(next);
+    if number != 0 {
+        return Judgement::Refused { number };
+    }
+    bits::mark(current, 0);
+    let answer = moves::follow(states, accepting, arcs, from, letter, to, record, current, next);
+    columns::clear64(current);
+    columns::clear64(next);
+    answer
+}
