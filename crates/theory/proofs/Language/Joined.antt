@@ -2,7 +2,6 @@
 use mathlib.Core.Path.{_≡_, refl, sym, subst}
 use mathlib.Core.Logic.{_↔_, Iff·rfl, Iff·symm}
 use mathlib.Core.Bool.{Bool, true, false, cond, false≢true}
-use mathlib.Core.List.{List, [], _∷_, map}
 use Rattle.theory.specs.Expression.{Expression, Sign, ∅, ε, letter, binary, star}
 use Rattle.theory.specs.Language.{Word, In}
 use Rattle.theory.specs.Derivative.{literal-ε, joined}

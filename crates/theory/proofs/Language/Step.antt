@@ -1,14 +1,13 @@
--- `Derives a ms e`: the list ms is right for the derivative of e by a. What `distinct` and joining do to such a list; the steps of the
--- derivative by operator stand on this. Leans on the laws of joining.
+-- `Derives a ms e`: the list ms is right for the derivative of e by a. What `distinct` and joining do to such a list; each operator's step
+-- stands on this. What joining means is taken as given here, and handed in by the operators.
 use Prim.Native.Nat.{ℕ}
-use mathlib.Core.Path.{_≡_}
 use mathlib.Core.Logic.{_↔_, Iff·trans, Iff·rfl}
-use mathlib.Core.List.{List, [], _∷_, map}
+use mathlib.Core.List.{List, _∷_, map}
 use Rattle.theory.specs.Expression.{Expression, Sign, same}
 use Rattle.theory.specs.Distinct.{distinct}
 use Rattle.theory.specs.Language.{Word, In}
 use Rattle.theory.specs.Derivative.{joined}
-use Rattle.theory.proofs.Language.Some.{Some, some-iff, some-map, some-distinct}
+use Rattle.theory.proofs.Language.Some.{Some, some-map, some-distinct}
 use Rattle.theory.proofs.Language.Together.{Together, together-iff, some-left, some-right}
 
 -- w is in the language of a member of ms.
@@ -28,13 +27,11 @@ module _ (s : Sign) (R : Word → Word → Word → Type 0)
   pub left-step : {a : ℕ} {ms : List Expression} {x : Expression} → Derives a ms x → (y : Expression) (w : Word)
       → InSome (map (λ m. joined s m y) ms) w ↔ Together R (λ u. In x (a ∷ u)) (In y) w
   left-step {ms} d y w =
-      Iff·trans (some-map (λ m. In m w) (λ m. joined s m y) ms)
-      (Iff·trans (some-iff (λ m. In (joined s m y) w) (λ m. Together R (In m) (In y) w) ms (λ m. joins m y w))
-      (Iff·trans (some-left R In (In y) ms w) (together-iff R w (d .words) (λ v. Iff·rfl))))
+      Iff·trans (some-map (λ m. In m w) (λ m. joined s m y) (λ m. Together R (In m) (In y) w) (λ m. joins m y w) ms)
+      (Iff·trans (some-left R In (In y) ms w) (together-iff R w (d .words) (λ v. Iff·rfl)))
 
   pub right-step : {a : ℕ} {ms : List Expression} {y : Expression} → (x : Expression) → Derives a ms y → (w : Word)
       → InSome (map (λ m. joined s x m) ms) w ↔ Together R (In x) (λ v. In y (a ∷ v)) w
   right-step {ms} x d w =
-      Iff·trans (some-map (λ m. In m w) (λ m. joined s x m) ms)
-      (Iff·trans (some-iff (λ m. In (joined s x m) w) (λ m. Together R (In x) (In m) w) ms (λ m. joins x m w))
-      (Iff·trans (some-right R (In x) In ms w) (together-iff R w (λ u. Iff·rfl) (d .words))))
+      Iff·trans (some-map (λ m. In m w) (λ m. joined s x m) (λ m. Together R (In x) (In m) w) (λ m. joins x m w) ms)
+      (Iff·trans (some-right R (In x) In ms w) (together-iff R w (λ u. Iff·rfl) (d .words)))
