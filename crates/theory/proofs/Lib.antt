@@ -1,3 +1,4 @@
 pub mod Below
 pub mod Distinct
 pub mod Examples
+pub mod Language

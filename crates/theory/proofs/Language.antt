@@ -1,0 +1,67 @@
+-- The test for the empty word and the derivative are right for the languages of expressions (004's slide before Proposition 4). Each operator's
+-- part is proved in its own file below; here they are put together.
+use Prim.Native.Nat.{ℕ}
+use mathlib.Core.Path.{_≡_, refl, sym}
+use mathlib.Core.Logic.{_↔_, Iff·trans, Iff·symm}
+use mathlib.Core.Bool.{Bool, true, false, false≢true}
+use mathlib.Core.List.{[], _∷_, List·Memᴰ, nil≢cons}
+use Rattle.theory.specs.Expression.{Expression, Sign, ∅, ε, letter, binary, star, union, concatenation, shuffle}
+use Rattle.theory.specs.Language.{Word, In, Shuffled}
+use Rattle.theory.specs.Derivative.{empty-word, joined, derivative}
+use Some.{⊎-iff}
+use Together.{together-test}
+use Joined.{Unital, joined-in}
+use Step.{Derives, distinct-step}
+use Leaf.{∅-step, ε-step, letter-step}
+use Union.{or-true-iff, union-step}
+use Concatenation.{Appended, appended-nil, concatenation-step}
+use Shuffle.{shuffled-nil, shuffle-step}
+use Star.{star-nil, star-step}
+pub mod Some
+pub mod Together
+pub mod Joined
+pub mod Step
+pub mod Leaf
+pub mod Union
+pub mod Concatenation
+pub mod Shuffle
+pub mod Star
+
+pub empty-word-right : (e : Expression) → (empty-word e ≡ true) ↔ In e []
+unfolding empty-word
+empty-word-right ∅ = (false≢true, absurd)
+empty-word-right ε = (λ e. refl, λ e. refl)
+empty-word-right (letter a) = (λ e. absurd (false≢true e), λ e. absurd (nil≢cons e))
+empty-word-right (binary union x y) =
+    Iff·trans (or-true-iff (empty-word x) (empty-word y)) (⊎-iff (empty-word-right x) (empty-word-right y))
+empty-word-right (binary concatenation x y) =
+    together-test Appended (In x) (In y) appended-nil (empty-word x) (empty-word y) (empty-word-right x) (empty-word-right y)
+empty-word-right (binary shuffle x y) =
+    together-test Shuffled (In x) (In y) shuffled-nil (empty-word x) (empty-word y) (empty-word-right x) (empty-word-right y)
+empty-word-right (star x) = (λ e. star-nil x, λ s. refl)
+
+derives : (a : ℕ) (e : Expression) → Derives a (derivative a e) e
+unfolding derivative
+derives a ∅ = ∅-step a
+derives a ε = ε-step a
+derives a (letter b) = letter-step a b
+derives a (binary union x y) = distinct-step (union-step (derives a x) (derives a y))
+derives a (binary concatenation x y) =
+    distinct-step (concatenation-step (empty-word x) (empty-word-right x) (derives a x) (derives a y))
+derives a (binary shuffle x y) = distinct-step (shuffle-step (derives a x) (derives a y))
+derives a (star x) = distinct-step (star-step (derives a x))
+
+-- The language of the derivative by a is the words w with aw in the language.
+pub derivative-right : (a : ℕ) (e : Expression) (w : Word) → ((m : Expression) × List·Memᴰ m (derivative a e) × In m w) ↔ In e (a ∷ w)
+derivative-right a e = (derives a e) .words
+
+-- Joining changes no answer for the empty word, since it changes no language.
+pub joined-empty-word : (s : Sign) → Unital s → (x y : Expression) → empty-word (joined s x y) ≡ empty-word (binary s x y)
+joined-empty-word s unital x y =
+    same-truth (empty-word (joined s x y)) (empty-word (binary s x y))
+    (Iff·trans (empty-word-right (joined s x y)) (Iff·trans (joined-in s unital x y []) (Iff·symm (empty-word-right (binary s x y)))))
+  where
+    same-truth : (b c : Bool) → (b ≡ true) ↔ (c ≡ true) → b ≡ c
+    same-truth true c h = sym (h .0 refl)
+    same-truth false true h = h .1 refl
+    same-truth false false h = refl
