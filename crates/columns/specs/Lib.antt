@@ -1,1 +1,2 @@
 pub mod Cursor
+pub mod Row

@@ -1,9 +1,12 @@
 // Small stores on lent columns, shared by all that write them.
 
 ghost use mathlib.Core.Path.{_≡_};
+ghost use Prim.Native.Nat.{_<_};
 ghost use lib.ListN.{length};
 ghost use Rattle.theory.specs.Column.{zeros};
+ghost use Rattle.theory.specs.Table.{table, row};
 ghost use Rattle.columns.specs.Cursor.{step-at};
+ghost use Rattle.columns.specs.Row.{as-row};
 
 // 01: "sets all lent output and work columns to zero". One function for each width.
 pub fn clear8(column: &mut [u8])
@@ -33,6 +36,24 @@ pub fn clear64(column: &mut [u64])
     while i < column.len() {
         column[i] = 0;
         i += 1;
+    }
+}
+
+// A row of an expression table, read whole.
+pub struct Row {
+    pub kind: u8,
+    pub left: u16,
+    pub right: u16,
+}
+
+pub fn row_at(kind: &[u8], left: &[u16], right: &[u16], i: usize) -> Row
+    requires { ⌜ (i < length (now kind)) × (i < length (now left)) × (i < length (now right)) ⌝ }
+    ensures { λ r. ⌜ as-row r ≡ row (table (now (kind .entry)) (now (left .entry)) (now (right .entry))) i ⌝ }
+{
+    Row {
+        kind: kind[i],
+        left: left[i],
+        right: right[i],
     }
 }
 

@@ -22,12 +22,10 @@ fn accepting_fits(states: usize, accepting: &[u8]) -> bool
 
 fn ends_fit(states: usize, arcs: usize, from: &[u16], letter: &[u8], to: &[u16]) -> bool
     requires { ⌜ (arcs ≤ length (now from)) × (arcs ≤ length (now letter)) × (arcs ≤ length (now to)) ⌝ }
-    ensures {
-        λ r.
+    ensures { λ r.
         ⌜ r ≡ all-below arcs
-          (λ i. ltb (getD (now (from .entry)) i 0) states && ltb (getD (now (to .entry)) i 0) states
-          && not (eqb (getD (now (letter .entry)) i 0) 0)) ⌝
-    }
+        (λ i. ltb (getD (now (from .entry)) i 0) states && ltb (getD (now (to .entry)) i 0) states
+        && not (eqb (getD (now (letter .entry)) i 0) 0)) ⌝ }
 {
     let mut fit = true;
     let mut i = 0;
@@ -48,12 +46,16 @@ pub fn refusal(
     to: &[u16],
     current_words: usize,
     next_words: usize,
-) -> u8
-{
+) -> u8 {
     if letter.len() != from.len() || to.len() != from.len() {
         return 1;
     }
-    if states == 0 || 65535 < states || accepting.len() < states || from.len() < arcs || 16777216 < arcs {
+    if states == 0
+        || 65535 < states
+        || accepting.len() < states
+        || from.len() < arcs
+        || 16777216 < arcs
+    {
         return 10;
     }
     if !accepting_fits(states, accepting) || !ends_fit(states, arcs, from, letter, to) {

@@ -27,20 +27,37 @@ pub fn judge(
     current: &mut [u64],
     next: &mut [u64],
 ) -> Judgement
-    ensures {
-        λ r.
+    ensures { λ r.
         ⌜ Judged (handed states (now (accepting .entry)) arcs (now (from .entry)) (now (letter .entry)) (now (to .entry)))
-          (now («record» .entry)) (now (current .entry)) (now (next .entry)) (values r) (now (current .exit)) (now (next .exit)) ⌝
-    }
+        (now («record» .entry)) (now (current .entry)) (now (next .entry)) (values r) (now (current .exit)) (now (next .exit)) ⌝ }
 {
-    let number = checks::refusal(states, accepting, arcs, from, letter, to, current.len(), next.len());
+    let number = checks::refusal(
+        states,
+        accepting,
+        arcs,
+        from,
+        letter,
+        to,
+        current.len(),
+        next.len(),
+    );
     columns::clear64(current);
     columns::clear64(next);
     if number != 0 {
         return Judgement::Refused { number };
     }
     bits::mark(current, 0);
-    let answer = moves::follow(states, accepting, arcs, from, letter, to, record, current, next);
+    let answer = moves::follow(
+        states,
+        accepting,
+        arcs,
+        from,
+        letter,
+        to,
+        record,
+        current,
+        next,
+    );
     columns::clear64(current);
     columns::clear64(next);
     answer

@@ -3,7 +3,15 @@
 use columns::Cursor;
 use columns::Step;
 
-fn spread(arcs: usize, from: &[u16], letter: &[u8], to: &[u16], byte: u8, current: &[u64], next: &mut [u64]) {
+fn spread(
+    arcs: usize,
+    from: &[u16],
+    letter: &[u8],
+    to: &[u16],
+    byte: u8,
+    current: &[u64],
+    next: &mut [u64],
+) {
     let mut i = 0;
     while i < arcs {
         if letter[i] == byte {

@@ -13,6 +13,9 @@ pub record Table : Type 0 where
   pub left : List ℕ
   pub right : List ℕ
 
+abbrev pub table : List ℕ → List ℕ → List ℕ → Table
+table k l r = record { kind = k; left = l; right = r }
+
 pub record Row : Type 0 where
   pub kind : ℕ
   pub left : ℕ
