@@ -17,7 +17,7 @@ pub fn marked(words: &[u64], state: usize) -> bool
 
 pub fn mark(words: &mut [u64], state: usize)
     requires { ⌜ state / 64 < length (now words) ⌝ }
-    ensures { λ _. ⌜ ((t : ℕ) → bit (now (words .exit)) t ≡ (eqb t state || bit (now (words .entry)) t)) ⌝ }
+    ensures { λ _. ⌜ ((t : ℕ) → bit (now (words .exit)) t ≡ (bit (now (words .entry)) t || eqb t state)) ⌝ }
 {
     let word = state / 64;
     words[word] = words[word] | (1u64 << (state % 64));
@@ -47,7 +47,7 @@ pub fn turn(n: usize, current: &mut [u64], next: &mut [u64]) -> bool
     let mut i = 0;
     while i < n {
         let word = next[i];
-        any = any || word != 0;
+        any = any | (word != 0);
         current[i] = word;
         next[i] = 0;
         i += 1;

@@ -14,7 +14,7 @@ fn accepting_fits(states: usize, accepting: &[u8]) -> bool
     let mut fit = true;
     let mut t = 0;
     while t < states {
-        fit = fit && accepting[t] <= 1;
+        fit = fit & (accepting[t] <= 1);
         t += 1;
     }
     fit
@@ -30,7 +30,8 @@ fn ends_fit(states: usize, arcs: usize, from: &[u16], letter: &[u8], to: &[u16])
     let mut fit = true;
     let mut i = 0;
     while i < arcs {
-        fit = fit && (from[i] as usize) < states && (to[i] as usize) < states && letter[i] != 0;
+        let ends = ((from[i] as usize) < states) & ((to[i] as usize) < states);
+        fit = fit & (ends & (letter[i] != 0));
         i += 1;
     }
     fit
