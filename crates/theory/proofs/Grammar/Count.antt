@@ -1,6 +1,6 @@
 -- What a text has open is what its stand has open, and the entries that an expression's text makes are the expression's.
-use Prim.Native.Nat.{ℕ, suc, _+_, _-_, _≤_}
-use native.Mathlib.Nat.{zero-add, suc-add}
+use Prim.Native.Nat.{ℕ, suc, _+_, _-_, _≤_, _<_}
+use native.Mathlib.Nat.{zero-add, add-zero, lt-irrefl}
 use native.Mathlib.Omega.{arith}
 use mathlib.Core.Path.{_≡_, refl, ap, sym, _∙_}
 use mathlib.Core.Bool.{Bool, true, false, cond}
@@ -99,3 +99,12 @@ made-written ε w = made-inner ε w
 made-written (letter a) w = made-inner (letter a) w
 made-written (binary s x y) w = made-inner (binary s x y) w
 made-written (star x) w = made-inner (star x) w
+
+-- A byte that makes an entry is no `(`.
+pub entry-not-deeper : (s : Text) (b : ℕ) → made s < made (s ++ b ∷ []) → depth (s ++ b ∷ []) ≤ depth s
+unfolding depth made times-byte
+entry-not-deeper s b h = go (eqb b byte-open) refl
+  where
+    go : (o : Bool) → eqb b byte-open ≡ o → depth (s ++ b ∷ []) ≤ depth s
+    go true e = absurd (lt-irrefl (made s) (simp (made-append, e, add-zero) at h))
+    go false e = simp (times-append, e) (omega arith)

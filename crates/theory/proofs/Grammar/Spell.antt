@@ -91,7 +91,7 @@ closers [] = []
 closers (opened ∷ fs) = byte-+ ∷ byte-1 ∷ byte-close ∷ closers fs
 closers (signed x s ∷ fs) = byte-close ∷ closers fs
 
-inner-writable : (e : Expression) → Inner e → Writable e
+pub inner-writable : (e : Expression) → Inner e → Writable e
 inner-writable ∅ i = absurd i
 inner-writable ε i = i
 inner-writable (letter a) i = i

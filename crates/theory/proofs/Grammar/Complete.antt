@@ -1,0 +1,1 @@
+-- Every reading of a text is what the scan answers, so a text has one reading.
