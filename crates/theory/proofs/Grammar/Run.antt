@@ -72,9 +72,3 @@ finish-whole p ε = refl
 finish-whole p (letter a) = refl
 finish-whole p (binary s x y) = refl
 finish-whole p (star x) = refl
-
-pub unambiguous : (e e′ : Expression) → Writable e → Writable e′ → written e ≡ written e′ → e ≡ e′
-unambiguous e e′ w w′ q =
-    let same : some (whole-stand e) ≡ some (whole-stand e′) = cc (run-whole e w, run-whole e′ w′) in
-    let f : read e ≡ read e′ = cc (finish-whole 0 e, finish-whole 0 e′) in
-    cc

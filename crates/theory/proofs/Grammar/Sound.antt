@@ -13,7 +13,7 @@ use Rattle.theory.specs.Refusal.{Refusal, refusal, not-grammar, too-deep
 use Rattle.theory.specs.Grammar.{Text, written, Whole, Viable, Reading, read, refused, depth, made, Passed, Reads, whole, broken, stopped, deep, many}
 use Rattle.theory.specs.Scan.{Stand, before, behind, ended, finish, scan-from, scan}
 use Rattle.theory.proofs.Grammar.Run.{run, start, whole-stand, finish-whole}
-use Rattle.theory.proofs.Grammar.Spell.{spell, spelled, inner-writable, run-viable, whole-run, viable-run}
+use Rattle.theory.proofs.Grammar.Spell.{spell, spelled, inner-writable, run-viable, whole-run, run-not-viable}
 use Rattle.theory.proofs.Grammar.Passing.{passed-nil, passed-on}
 use Rattle.theory.proofs.Grammar.Steps.{step-broken, step-deep, step-many, step-on}
 
@@ -37,9 +37,6 @@ inside s b t = simp length-append (omega arith)
 pub through-byte : (s : Text) (b : ℕ) (t : Text) → take (suc (length s)) (s ++ b ∷ t) ≡ s ++ b ∷ []
 through-byte s b t = rw add-one at (take-append-add s (b ∷ t) 1)
 
-not-viable : (s : Text) → run start s ≡ none → ¬ (Viable s)
-not-viable s e v = let h = viable-run s v in let z : _≡_ {A = ℕ} 0 1 = cc (h .1) in omega arith
-
 module _ (room : ℕ) (s : Text) (c : Stand) (r : run start s ≡ some c) (passed : Passed room s) (b : ℕ) (t : Text) where
   before-byte : Passed room (take (length s) (s ++ b ∷ t))
   before-byte = rw take-append-seam passed
@@ -49,7 +46,7 @@ module _ (room : ℕ) (s : Text) (c : Stand) (r : run start s ≡ some c) (passe
         → Reads room (s ++ b ∷ t) (scan-from room (length (s ++ b ∷ [])) (made (s ++ b ∷ [])) c′ t))
       → Reads room (s ++ b ∷ t) (scan-from room (length s) (made s) c (b ∷ t))
   byte-reads none e d m rest =
-      rw (step-broken room s c r b t e) (broken (length s) (inside s b t) before-byte (rw through-byte (not-viable (s ++ b ∷ []) e)))
+      rw (step-broken room s c r b t e) (broken (length s) (inside s b t) before-byte (rw through-byte (run-not-viable (s ++ b ∷ []) e)))
   byte-reads (some c′) e (yes d) m rest =
       rw (step-deep room s c r b t c′ e d) (deep (length s) (inside s b t) before-byte (rw through-byte (run-viable (s ++ b ∷ []) c′ e)) (rw through-byte d))
   byte-reads (some c′) e (no d) (yes m) rest =
@@ -59,13 +56,10 @@ module _ (room : ℕ) (s : Text) (c : Stand) (r : run start s ≡ some c) (passe
       rw (step-on room s c r b t c′ e (omega arith) (omega arith))
         (rest c′ e (passed-on room s b passed (run-viable (s ++ b ∷ []) c′ e) (omega arith) (omega arith)))
 
-scan-from-reads : (room : ℕ) (t s : Text) (c : Stand) → run start s ≡ some c → Passed room s → Reads room (s ++ t) (scan-from room (length s) (made s) c t)
+-- From behind any start that passes.
+pub scan-from-reads : (room : ℕ) (t s : Text) (c : Stand) → run start s ≡ some c → Passed room s → Reads room (s ++ t) (scan-from room (length s) (made s) c t)
 unfolding scan-from
 scan-from-reads room [] s c r p = rw append-nil (finish-reads room s c r p)
 scan-from-reads room (b ∷ t) s c r p =
     byte-reads room s c r p b t (run start (s ++ b ∷ [])) refl (decLt 64 (depth (s ++ b ∷ []))) (decLt room (made (s ++ b ∷ [])))
       (λ c′ r′ p′. rw append-assoc at (scan-from-reads room t (s ++ b ∷ []) c′ r′ p′))
-
-pub scan-reads : (room : ℕ) (t : Text) → Reads room t (scan room t)
-unfolding scan run made
-scan-reads room t = scan-from-reads room t [] (before []) refl (passed-nil room (run-viable [] (before []) refl))

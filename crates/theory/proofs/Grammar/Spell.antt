@@ -124,3 +124,13 @@ viable-run s v = go (run start s) refl
     go none r =
         let z : _≡_ {A = ℕ} 0 1 = cc (whole-run (v .1), run-append start s (v .0), run-none (v .0)) in
         absurd (omega arith)
+
+pub run-not-viable : (s : Text) → run start s ≡ none → ¬ (Viable s)
+run-not-viable s r v = let here = (viable-run s v) .1 in let z : _≡_ {A = ℕ} 0 1 = cc in omega arith
+
+pub not-viable-run : (s : Text) → ¬ (Viable s) → run start s ≡ none
+not-viable-run s n = go (run start s) refl
+  where
+    go : (o : Option Stand) → run start s ≡ o → run start s ≡ none
+    go none r = r
+    go (some c) r = absurd (n (run-viable s c r))
