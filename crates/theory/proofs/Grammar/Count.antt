@@ -15,7 +15,7 @@ use Rattle.theory.proofs.Grammar.Bytes.{letter-not}
 use Rattle.theory.proofs.Grammar.Run.{run, start}
 use Rattle.theory.proofs.Grammar.Spell.{spell-frames, spell, Inner-frames, Inner-stand, spelled}
 
-cond-suc-add : (h : Bool) (n k : ℕ) → cond h (suc (n + k)) (n + k) ≡ cond h (suc n) n + k
+pub cond-suc-add : (h : Bool) (n k : ℕ) → cond h (suc (n + k)) (n + k) ≡ cond h (suc n) n + k
 cond-suc-add true n k = omega arith
 cond-suc-add false n k = refl
 
