@@ -4,9 +4,9 @@ use native.Mathlib.Omega.{arith}
 use mathlib.Core.Path.{_≡_, refl, sym, subst}
 use mathlib.Core.Bool.{Bool, true, false, cond, not, _&&_, _||_}
 use mathlib.Core.Logic.{_⊎_, inl, inr}
-use lib.Dec.{T, eqb, leb, ltb, ltb→lt}
+use lib.Dec.{T, eqb, leb, ltb, leb→le, ltb→lt}
 use borrow.Author.Tests.{eqb-true, ne-eqb, leb-true}
-use mir.Facts.{and-yes, or-yes, leb-yes}
+use mir.Facts.{and-yes, or-yes}
 use Rattle.theory.specs.Expression.{Sign, union, concatenation, shuffle}
 use Rattle.theory.specs.Grammar.{byte-open, byte-close, byte-*, byte-+, byte-dot, byte-&, byte-0, byte-1, is-letter, sign-byte, makes-entry}
 use Rattle.theory.specs.Scan.{Token, opening, closing, starring, zero, unit, other, signing, naming, token}
@@ -46,14 +46,14 @@ token-made-of b =
 
 -- ---- Letters
 
-letter-low : (a : ℕ) → T (is-letter a) → 65 ≤ a
+pub letter-bounds : (a : ℕ) → T (is-letter a) → (65 ≤ a) × (a ≤ 122)
 unfolding is-letter
-letter-low a h = elim (or-yes (leb 65 a && leb a 90) (leb 97 a && leb a 122) h) [
-  | inl u ↦ leb-yes (and-yes (leb 65 a) (leb a 90) u .0)
-  | inr u ↦ let l : 97 ≤ a = leb-yes (and-yes (leb 97 a) (leb a 122) u .0) in omega arith ]
+letter-bounds a h = elim (or-yes (leb 65 a && leb a 90) (leb 97 a && leb a 122) h) [
+  | inl u ↦ let b = and-yes (leb 65 a) (leb a 90) u in omega (arith, leb→le 65 a (b .0), leb→le a 90 (b .1))
+  | inr u ↦ let b = and-yes (leb 97 a) (leb a 122) u in omega (arith, leb→le 97 a (b .0), leb→le a 122 (b .1)) ]
 
 pub letter-not : (a c : ℕ) → T (is-letter a) → c < 65 → eqb a c ≡ false
-letter-not a c h l = let low = letter-low a h in ne-eqb a c (λ e. omega arith)
+letter-not a c h l = let low = letter-bounds a h .0 in ne-eqb a c (λ e. omega arith)
 
 pub token-letter : (a : ℕ) → T (is-letter a) → token a ≡ naming a
 unfolding token
