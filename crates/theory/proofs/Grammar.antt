@@ -8,10 +8,8 @@ use Rattle.theory.specs.Expression.{Expression}
 use Rattle.theory.specs.Grammar.{Text, written, Writable, Reading, read, Reads, made}
 use Rattle.theory.specs.Scan.{before, scan}
 use Run.{run, whole-stand, run-whole, finish-whole}
-use Spell.{run-viable}
 use Passing.{passed-nil}
 use Sound.{scan-from-reads}
-use Complete.{reads-scan}
 pub mod Bytes
 pub mod Run
 pub mod Spell
@@ -20,11 +18,12 @@ pub mod Passing
 pub mod Steps
 pub mod Sound
 pub mod Complete
+pub use Complete.{reads-scan}
 
 -- The executable reading is a reading, refusals and places included.
 pub scan-reads : (room : ℕ) (t : Text) → Reads room t (scan room t)
 unfolding scan run made
-scan-reads room t = scan-from-reads room t [] (before []) refl (passed-nil room (run-viable [] (before []) refl))
+scan-reads room t = scan-from-reads room t [] (before []) refl (passed-nil room)
 
 pub reads-once : {room : ℕ} {t : Text} {r r′ : Reading} → Reads room t r → Reads room t r′ → r ≡ r′
 reads-once h h′ = sym (reads-scan h) ∙ reads-scan h′

@@ -1,17 +1,15 @@
 -- The table that a text's expression is read into: its tree is the expression, its length the expression's entries, which fit the
 -- room of the reading, and the builder refuses none of it. Leans on `Grammar` for what a text that is read makes.
 use Prim.Native.Nat.{ℕ, zero, suc, _+_, pred, _≤_, _<_}
-use native.Mathlib.Nat.{zero-add, add-zero, add-suc, suc-add, zero-lt-suc}
+use native.Mathlib.Nat.{zero-add, add-zero, add-suc, suc-add}
 use native.Mathlib.Omega.{arith}
-use mathlib.Core.Path.{_≡_, refl, ap, sym, _∙_}
-use mathlib.Core.List.{List, [], _∷_, _++_}
-use lib.ListN.{length, length-map}
-use lib.Dec.{eqb, ltb}
+use mathlib.Core.Path.{_≡_, refl}
+use lib.ListN.{length-map}
 use borrow.Author.Tests.{eq-eqb, ne-eqb, le-ltb}
-use Rattle.theory.specs.Expression.{Expression, ∅, entries}
-use Rattle.theory.specs.Refusal.{Refusal, refusal, success}
-use Rattle.theory.specs.Table.{Table, Row, row, columns, size, entry-fault, naming-fault, first-fault, table-refusal, named, times}
-use Rattle.theory.specs.Grammar.{Text, rows, written, Writable, made, read, Reads, whole}
+use Rattle.theory.specs.Expression.{Expression, entries}
+use Rattle.theory.specs.Refusal.{success}
+use Rattle.theory.specs.Table.{row, columns, entry-fault, naming-fault, first-fault, table-refusal}
+use Rattle.theory.specs.Grammar.{Text, rows, Writable, read, Reads, whole}
 use Rattle.theory.proofs.Grammar.Count.{made-written}
 use Trees.{rows-length, rows-size, entries-positive}
 use Naming.{rows-named-once}
@@ -20,9 +18,8 @@ pub mod Along
 pub mod Trees
 pub mod Naming
 pub mod Faults
-pub use Trees.{rows-tree}
+pub use Trees.{rows-tree, rows-length}
 
--- 01, "entries": the entries of an expression that is read fit the room of the reading.
 pub read-fits : {room : ℕ} {t : Text} {e : Expression} → Reads room t (read e) → entries e ≤ room
 read-fits (whole e w x p) = rw (made-written e w) at (rw (← x) at (p .fits))
 
@@ -37,10 +34,16 @@ named-faultless : (e : Expression) (i : ℕ) → i < pred (entries e) → naming
 unfolding naming-fault
 named-faultless e i l = rw (rows-size, rows-named-once e i l)
 
+-- 01: "A text that is read gives a table that the builder never refuses with 1 to 8."
 pub rows-refused-never : (e : Expression) → Writable e → entries e ≤ 512 → table-refusal (columns (rows 0 e)) ≡ success
 unfolding table-refusal
 rows-refused-never e w l =
-    let faults = no-fault (λ i. entry-fault (entries e) i (row (columns (rows 0 e)) i)) 0 (entries e) (λ j h. rw zero-add (rows-faultless e w j h)) in
-    let naming = no-fault (naming-fault (columns (rows 0 e))) 0 (pred (entries e)) (λ j h. rw zero-add (named-faultless e j h)) in
-    let some-rows = entries-positive e in
-    rw (length-map, length-map, length-map, rows-length, eq-eqb (entries e) (entries e) refl, ne-eqb (entries e) 0 (λ z. omega arith), le-ltb 512 (entries e) l, faults, naming)
+    let n = entries e in
+    let t = columns (rows 0 e) in
+    let equal = eq-eqb n n refl in
+    let positive = entries-positive e in
+    let not-empty = ne-eqb n 0 (λ z. omega arith) in
+    let not-long = le-ltb 512 n l in
+    let faults = no-fault (λ i. entry-fault n i (row t i)) 0 n (λ j h. rw zero-add (rows-faultless e w j h)) in
+    let naming = no-fault (naming-fault t) 0 (pred n) (λ j h. rw zero-add (named-faultless e j h)) in
+    rw (length-map, length-map, length-map, rows-length, equal, not-empty, not-long, faults, naming)

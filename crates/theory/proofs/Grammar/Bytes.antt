@@ -1,14 +1,14 @@
--- What `token` makes of each byte, both ways: a token was made of its own byte, and the bytes of the grammar make their tokens.
+-- A token was made of its own byte, and a letter, being none of the grammar's other bytes, makes its own token.
 use Prim.Native.Nat.{ℕ, _≤_, _<_}
 use native.Mathlib.Omega.{arith}
 use mathlib.Core.Path.{_≡_, refl, sym, subst}
-use mathlib.Core.Bool.{Bool, true, false, cond, not, _&&_, _||_}
-use mathlib.Core.Logic.{_⊎_, inl, inr}
-use lib.Dec.{T, eqb, leb, ltb, leb→le, ltb→lt}
-use borrow.Author.Tests.{eqb-true, ne-eqb, leb-true}
+use mathlib.Core.Bool.{Bool, true, false, cond, _&&_}
+use mathlib.Core.Logic.{inl, inr}
+use lib.Dec.{T, eqb, leb, ltb, leb→le, lit<}
+use borrow.Author.Tests.{eqb-true, ne-eqb}
 use mir.Facts.{and-yes, or-yes}
-use Rattle.theory.specs.Expression.{Sign, union, concatenation, shuffle}
-use Rattle.theory.specs.Grammar.{byte-open, byte-close, byte-*, byte-+, byte-dot, byte-&, byte-0, byte-1, is-letter, sign-byte, makes-entry}
+use Rattle.theory.specs.Expression.{union, concatenation, shuffle}
+use Rattle.theory.specs.Grammar.{byte-open, byte-close, byte-*, byte-+, byte-dot, byte-&, byte-0, byte-1, is-letter, sign-byte}
 use Rattle.theory.specs.Scan.{Token, opening, closing, starring, zero, unit, other, signing, naming, token}
 
 -- The byte that a token was made of.
@@ -41,6 +41,7 @@ token-made-of b =
   where
     P : Token → Type 0
     P k = Made-of k b
+
     at : (c : ℕ) (k k′ : Token) → (b ≡ c → P k) → P k′ → P (cond (eqb b c) k k′)
     at c k k′ f p = by-cond P (eqb b c) (λ e. f (eqb-true b c e)) (λ e. p)
 
@@ -50,18 +51,21 @@ pub letter-bounds : (a : ℕ) → T (is-letter a) → (65 ≤ a) × (a ≤ 122)
 unfolding is-letter
 letter-bounds a h = elim (or-yes (leb 65 a && leb a 90) (leb 97 a && leb a 122) h) [
   | inl u ↦ let b = and-yes (leb 65 a) (leb a 90) u in omega (arith, leb→le 65 a (b .0), leb→le a 90 (b .1))
-  | inr u ↦ let b = and-yes (leb 97 a) (leb a 122) u in omega (arith, leb→le 97 a (b .0), leb→le a 122 (b .1)) ]
+  | inr u ↦ let b = and-yes (leb 97 a) (leb a 122) u in omega (arith, leb→le 97 a (b .0), leb→le a 122 (b .1))
+]
 
-pub letter-not : (a c : ℕ) → T (is-letter a) → c < 65 → eqb a c ≡ false
-letter-not a c h l = let low = letter-bounds a h .0 in ne-eqb a c (λ e. omega arith)
+pub letter-not : (a : ℕ) → T (is-letter a) → (c : ℕ) → T (ltb c 65) → eqb a c ≡ false
+letter-not a h c l =
+    let low = letter-bounds a h .0 in
+    let below : c < 65 = lit< l in
+    ne-eqb a c (λ e. omega arith)
 
 pub token-letter : (a : ℕ) → T (is-letter a) → token a ≡ naming a
 unfolding token
 token-letter a h =
-    rw (is byte-open tt, is byte-close tt, is byte-* tt, is byte-0 tt, is byte-1 tt, is byte-+ tt, is byte-dot tt, is byte-& tt, T-true (is-letter a) h)
+    let no = letter-not a h in
+    rw (no byte-open tt, no byte-close tt, no byte-* tt, no byte-0 tt, no byte-1 tt, no byte-+ tt, no byte-dot tt, no byte-& tt, T-true (is-letter a) h)
   where
-    is : (c : ℕ) → T (ltb c 65) → eqb a c ≡ false
-    is c l = letter-not a c h (ltb→lt c 65 l)
     T-true : (b : Bool) → T b → b ≡ true
     T-true true t = refl
     T-true false t = absurd t

@@ -1,21 +1,21 @@
--- Every reading of a text is what the scan answers, so a text has one reading.
-use Prim.Native.Nat.{ℕ, suc, _+_, _≤_, _<_}
+-- Every reading of a text is what the scan answers.
+use Prim.Native.Nat.{ℕ, suc, _≤_, _<_}
 use native.Mathlib.Nat.{le-of-lt}
 use native.Mathlib.Omega.{arith}
-use mathlib.Core.Path.{_≡_, refl, ap, sym, _∙_}
-use mathlib.Core.List.{List, [], _∷_, _++_, append-assoc, append-nil}
-use mathlib.Core.Option.{Option, none, some}
+use mathlib.Core.Path.{_≡_, refl, ap, _∙_}
+use mathlib.Core.Logic.{inl, inr}
+use mathlib.Core.List.{[], _∷_, _++_, append-nil}
+use mathlib.Core.Option.{some}
 use lib.ListN.{length, take, drop, getD}
 use lib.Seq.{append-snoc, split-at, take-suc, length-take-le, take-length}
-use Rattle.theory.specs.Expression.{∅}
-use Rattle.theory.specs.Refusal.{Refusal, refusal, not-grammar, too-deep, too-many-entries}
-use Rattle.theory.specs.Grammar.{Text, written, Viable, Whole, Reading, read, refused, depth, made, Passed, Reads, whole, broken, stopped, deep, many}
-use Rattle.theory.specs.Scan.{Stand, before, behind, ended, finish, scan-from, scan}
-use Rattle.theory.proofs.Grammar.Run.{run, start, whole-stand, finish-whole}
-use Rattle.theory.proofs.Grammar.Spell.{spell, spelled, inner-writable, whole-run, viable-run, not-viable-run}
+use Rattle.theory.specs.Refusal.{refusal, not-grammar, too-deep, too-many-entries}
+use Rattle.theory.specs.Grammar.{Text, Viable, Whole, Reading, read, refused, depth, made, Passed, Reads, whole, broken, stopped, deep, many}
+use Rattle.theory.specs.Scan.{Stand, before, finish, scan-from, scan}
+use Rattle.theory.proofs.Grammar.Run.{run, start, finish-whole}
+use Rattle.theory.proofs.Grammar.Spell.{whole-run, viable-run, not-viable-run}
 use Rattle.theory.proofs.Grammar.Count.{entry-not-deeper}
 use Rattle.theory.proofs.Grammar.Passing.{viable-start, shallow-start, fits-start}
-use Rattle.theory.proofs.Grammar.Steps.{step-broken, step-deep, step-many, step-on}
+use Rattle.theory.proofs.Grammar.Steps.{end-decides, step-broken, step-deep, step-many, step-on}
 
 -- The scan goes on over a text that passes.
 scan-passes : (room : ℕ) (u v s : Text) (c c′ : Stand) → run start s ≡ some c → run start (s ++ u) ≡ some c′ → Passed room (s ++ u)
@@ -29,7 +29,8 @@ scan-passes room (b ∷ u) v s c c′ r r′ p =
 
 module _ (room : ℕ) (s : Text) (passed : Passed room s) where
   -- What the scan answers behind s, wherever it stands there, it answers of the whole text.
-  scan-behind : (t : Text) (q : Reading) → ((c : Stand) → run start s ≡ some c → scan-from room (length s) (made s) c t ≡ q) → scan room (s ++ t) ≡ q
+  scan-behind : (t : Text) (q : Reading) → ((c : Stand) → run start s ≡ some c → scan-from room (length s) (made s) c t ≡ q)
+      → scan room (s ++ t) ≡ q
   unfolding scan run made
   scan-behind t q answer =
       let here = viable-run s (passed .viable) in
@@ -45,21 +46,16 @@ module _ (room : ℕ) (s : Text) (passed : Passed room s) where
   scan-deep : (b : ℕ) (t : Text) → Viable (s ++ b ∷ []) → 64 < depth (s ++ b ∷ []) → scan room (s ++ b ∷ t) ≡ refused (refusal too-deep (length s))
   scan-deep b t v d = let on = viable-run (s ++ b ∷ []) v in scan-behind (b ∷ t) _ (λ c r. step-deep room s c r b t (on .0) (on .1) d)
 
-  scan-many : (b : ℕ) (t : Text) → Viable (s ++ b ∷ []) → room < made (s ++ b ∷ []) → scan room (s ++ b ∷ t) ≡ refused (refusal too-many-entries (length s))
+  scan-many : (b : ℕ) (t : Text) → Viable (s ++ b ∷ []) → room < made (s ++ b ∷ [])
+      → scan room (s ++ b ∷ t) ≡ refused (refusal too-many-entries (length s))
   scan-many b t v m =
       let on = viable-run (s ++ b ∷ []) v in
       let deeper = entry-not-deeper s b (omega (arith, passed .fits)) in
       let d : depth (s ++ b ∷ []) ≤ 64 = omega (arith, rw take-length at (passed .shallow (length s))) in
       scan-behind (b ∷ t) _ (λ c r. step-many room s c r b t (on .0) (on .1) d m)
 
--- ---- The end of a text: it is an expression exactly when the stand there is one's.
-
 unfinished : (s : Text) (c : Stand) → run start s ≡ some c → ¬ (Whole s) → finish (length s) c ≡ refused (refusal not-grammar (length s))
-unfolding finish written spell
-unfinished s (before fs) r n = refl
-unfinished s (behind e []) r n = let h = spelled s (behind e []) r in absurd (n (e, inner-writable e (h .0 .0), h .1))
-unfinished s (behind e (f ∷ fs)) r n = refl
-unfinished s ended r n = absurd (n (∅, tt, spelled s ended r .1))
+unfinished s c r n = elim (end-decides s c r (length s)) [ inl h ↦ absurd (n (h .0)) | inr h ↦ h .1 ]
 
 -- ---- A text cut at a byte
 
@@ -74,7 +70,7 @@ reads-scan {room} {t} (broken p l h n) =
 reads-scan {room} {t} (stopped h n) = scan-end room t h _ (λ c r. unfinished t c r n)
 reads-scan {room} {t} (deep p l h v d) =
     cut-answer room t p too-deep l
-      (scan-deep room (take p t) h (getD t p 0) (drop (suc p) t) (rw (take-suc t p 0 l) at v) (rw (take-suc t p 0 l) at d))
+    (scan-deep room (take p t) h (getD t p 0) (drop (suc p) t) (rw (take-suc t p 0 l) at v) (rw (take-suc t p 0 l) at d))
 reads-scan {room} {t} (many p l h v m) =
     cut-answer room t p too-many-entries l
-      (scan-many room (take p t) h (getD t p 0) (drop (suc p) t) (rw (take-suc t p 0 l) at v) (rw (take-suc t p 0 l) at m))
+    (scan-many room (take p t) h (getD t p 0) (drop (suc p) t) (rw (take-suc t p 0 l) at v) (rw (take-suc t p 0 l) at m))

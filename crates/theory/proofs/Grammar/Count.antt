@@ -1,13 +1,13 @@
 -- What a text has open is what its stand has open, and the entries that an expression's text makes are the expression's.
-use Prim.Native.Nat.{ℕ, suc, _+_, _-_, _≤_, _<_}
+use Prim.Native.Nat.{ℕ, suc, _+_, _≤_, _<_}
 use native.Mathlib.Nat.{zero-add, add-zero, lt-irrefl}
 use native.Mathlib.Omega.{arith}
-use mathlib.Core.Path.{_≡_, refl, ap, sym, _∙_}
+use mathlib.Core.Path.{_≡_, refl, sym}
 use mathlib.Core.Bool.{Bool, true, false, cond}
 use mathlib.Core.List.{List, [], _∷_, _++_}
-use mathlib.Core.Option.{Option, none, some}
+use mathlib.Core.Option.{some}
 use lib.ListN.{length}
-use lib.Dec.{T, eqb, ltb, lit<}
+use lib.Dec.{T, eqb}
 use Rattle.theory.specs.Expression.{Expression, Sign, union, concatenation, shuffle, ∅, ε, letter, binary, star, entries}
 use Rattle.theory.specs.Grammar.{Text, written, sign-byte, byte-open, byte-close, byte-+, byte-dot, byte-&, Inner, Writable, is-letter, times-byte, depth, makes-entry, made}
 use Rattle.theory.specs.Scan.{Stand, before, behind, ended, Frame, opened, signed, open-at}
@@ -15,6 +15,7 @@ use Rattle.theory.proofs.Grammar.Bytes.{letter-not}
 use Rattle.theory.proofs.Grammar.Run.{run, start}
 use Rattle.theory.proofs.Grammar.Spell.{spell-frames, spell, Inner-frames, Inner-stand, spelled}
 
+-- A count's step, taken before a sum or after it.
 pub cond-suc-add : (h : Bool) (n k : ℕ) → cond h (suc (n + k)) (n + k) ≡ cond h (suc n) n + k
 cond-suc-add true n k = omega arith
 cond-suc-add false n k = refl
@@ -47,7 +48,7 @@ balanced : (e : Expression) → Inner e → times-byte byte-open (written e) ≡
 unfolding times-byte written
 balanced ∅ i = refl
 balanced ε i = refl
-balanced (letter a) i = simp (letter-not a byte-open i (lit< tt), letter-not a byte-close i (lit< tt))
+balanced (letter a) i = simp (letter-not a i byte-open tt, letter-not a i byte-close tt)
 balanced (binary s x y) i = simp (times-append, sign-not-open, sign-not-close) (omega (arith, balanced x (i .0), balanced y (i .1)))
 balanced (star x) i = simp times-append (omega (arith, balanced x i))
 
@@ -79,10 +80,7 @@ sign-makes-none shuffle = refl
 
 letter-makes : (a : ℕ) → T (is-letter a) → makes-entry a ≡ true
 unfolding makes-entry
-letter-makes a i = rw (is byte-open tt, is byte-+ tt, is byte-dot tt, is byte-& tt)
-  where
-    is : (c : ℕ) → T (ltb c 65) → eqb a c ≡ false
-    is c l = letter-not a c i (lit< l)
+letter-makes a i = let no = letter-not a i in rw (no byte-open tt, no byte-+ tt, no byte-dot tt, no byte-& tt)
 
 made-inner : (e : Expression) → Inner e → made (written e) ≡ entries e
 unfolding made written entries

@@ -1,12 +1,11 @@
--- The reading as a fold of `next` over a text. The text of an expression leads from before it to behind it, so no text is the text
--- of two.
-use mathlib.Core.Path.{_≡_, refl, ap, sym, _∙_}
+-- The reading as a fold of `next` over a text: the text of an expression leads from before it to behind it.
+use mathlib.Core.Path.{_≡_, refl}
 use mathlib.Core.List.{List, [], _∷_, _++_}
-use mathlib.Core.Option.{Option, none, some, Option·some-injective}
+use mathlib.Core.Option.{Option, none, some}
 use Prim.Native.Nat.{ℕ}
 use Rattle.theory.specs.Expression.{Expression, Sign, union, concatenation, shuffle, ∅, ε, letter, binary, star}
-use Rattle.theory.specs.Grammar.{Text, written, sign-byte, byte-open, byte-close, byte-*, Inner, Writable, Whole, Reading, read}
-use Rattle.theory.specs.Scan.{Token, opening, Stand, before, behind, ended, Frame, opened, signed, next, token, finish}
+use Rattle.theory.specs.Grammar.{Text, written, sign-byte, Inner, Writable, read}
+use Rattle.theory.specs.Scan.{Stand, before, behind, ended, Frame, opened, signed, next, token, finish}
 use Rattle.theory.proofs.Grammar.Bytes.{token-letter}
 
 unfoldable pub step : Option Stand → ℕ → Option Stand

@@ -1,12 +1,12 @@
 -- Each stand of the reading spells the text read so far, and some text completes it. So a text can go on to a whole expression
 -- exactly when the reading runs over it.
-use mathlib.Core.Path.{_≡_, refl, ap, sym, _∙_}
+use mathlib.Core.Path.{_≡_, refl}
 use mathlib.Core.List.{List, [], _∷_, _++_, append-assoc, append-nil}
 use mathlib.Core.Option.{Option, none, some}
 use Prim.Native.Nat.{ℕ}
 use native.Mathlib.Omega.{arith}
-use Rattle.theory.specs.Expression.{Expression, Sign, union, concatenation, shuffle, ∅, ε, letter, binary, star}
-use Rattle.theory.specs.Grammar.{Text, written, sign-byte, byte-open, byte-close, byte-+, byte-*, byte-0, byte-1, Inner, Writable, Whole, Viable}
+use Rattle.theory.specs.Expression.{Expression, union, ∅, ε, letter, binary, star}
+use Rattle.theory.specs.Grammar.{Text, written, sign-byte, byte-open, byte-close, byte-+, byte-0, byte-1, Inner, Writable, Whole, Viable}
 use Rattle.theory.specs.Scan.{Token, opening, closing, starring, zero, unit, other, signing, naming, Stand, before, behind, ended, Frame, opened, signed, next, token}
 use Rattle.theory.proofs.Grammar.Bytes.{Made-of, token-made-of}
 use Rattle.theory.proofs.Grammar.Run.{step, run, start, run-append, run-none, run-whole, whole-stand}

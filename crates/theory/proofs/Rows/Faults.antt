@@ -1,16 +1,14 @@
 -- No row of an expression that can be written has a fault of its own.
-use Prim.Native.Nat.{ℕ, zero, suc, _+_, pred, _≤_, _<_, zero-le, suc-le-suc}
+use Prim.Native.Nat.{ℕ, zero, suc, _+_, pred, _<_}
 use native.Mathlib.Nat.{zero-add, add-zero, add-suc, suc-add}
 use native.Mathlib.Omega.{arith}
-use mathlib.Core.Path.{_≡_, refl, ap, sym, _∙_}
-use mathlib.Core.Bool.{Bool, true, false, cond}
+use mathlib.Core.Path.{_≡_, refl}
 use mathlib.Core.List.{List, [], _∷_, _++_}
 use lib.ListN.{length, length-append}
-use lib.Dec.{T, eqb, leb, ltb}
-use borrow.Author.Tests.{eq-eqb, ne-eqb, lt-ltb, le-leb}
+use lib.Dec.{T}
+use borrow.Author.Tests.{lt-ltb, le-leb}
 use Rattle.theory.specs.Expression.{Expression, Sign, union, concatenation, shuffle, ∅, ε, letter, binary, star, entries}
-use Rattle.theory.specs.Refusal.{success}
-use Rattle.theory.specs.Table.{Table, Row, row, columns, entry-fault, first-fault, kind-of-sign, all-below, fields-fit}
+use Rattle.theory.specs.Table.{Row, row, columns, entry-fault, kind-of-sign}
 use Rattle.theory.specs.Grammar.{rows, Inner, Writable, is-letter}
 use Rattle.theory.proofs.Grammar.Bytes.{letter-bounds}
 use Rattle.theory.proofs.Rows.Trees.{rows-length, entries-positive}
@@ -52,10 +50,10 @@ faultless-rows n base (binary s x y) i =
     let before = rows base x ++ rows (base + entries x) y in
     let here : base + length before ≡ base + entries x + entries y = simp (length-append, rows-length) (omega arith) in
     let own = sign-row n (base + length before) s (base + pred (entries x)) (base + entries x + pred (entries y)) in
-    faultless-append n base before _
-      (faultless-append n base (rows base x) (rows (base + entries x) y) (faultless-rows n base x (i .0))
-        (rw rows-length (faultless-rows n (base + entries x) y (i .1))))
-      (own (omega (arith, entries-positive x)) (omega (arith, entries-positive y)), tt)
+    let xs = faultless-rows n base x (i .0) in
+    let ys = faultless-rows n (base + entries x) y (i .1) in
+    let both = faultless-append n base (rows base x) (rows (base + entries x) y) xs (rw rows-length ys) in
+    faultless-append n base before _ both (own (omega (arith, entries-positive x)) (omega (arith, entries-positive y)), tt)
 faultless-rows n base (star x) i =
     let own = star-row n (base + entries x) (base + pred (entries x)) (omega (arith, entries-positive x)) in
     faultless-append n base (rows base x) _ (faultless-rows n base x i) (rw rows-length own, tt)

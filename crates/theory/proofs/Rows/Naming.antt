@@ -4,14 +4,12 @@ use native.Mathlib.Nat.{zero-add, add-zero, add-suc, suc-add}
 use native.Mathlib.Decide.{ℕ-discrete}
 use native.Mathlib.Numerals.{add-one}
 use native.Mathlib.Omega.{arith}
-use mathlib.Core.Path.{_≡_, refl, ap, sym, _∙_}
-use mathlib.Core.Bool.{Bool, true, false, cond}
-use mathlib.Core.List.{List, [], _∷_, _++_, foldl, append-assoc, append-nil, foldl-append}
+use mathlib.Core.Path.{_≡_, refl, sym}
+use mathlib.Core.List.{List, [], _∷_, _++_, foldl, append-nil, foldl-append}
 use lib.ListN.{length}
-use lib.Dec.{eqb}
 use borrow.Author.Tests.{eq-eqb, ne-eqb}
-use Rattle.theory.specs.Expression.{Expression, Sign, ∅, ε, letter, binary, star, entries}
-use Rattle.theory.specs.Table.{Table, Row, columns, row-children, named, times, size, kind-of-sign}
+use Rattle.theory.specs.Expression.{Expression, ∅, ε, letter, binary, star, entries}
+use Rattle.theory.specs.Table.{Row, columns, row-children, named, times}
 use Rattle.theory.specs.Grammar.{rows}
 use Rattle.theory.proofs.Grammar.Count.{cond-suc-add}
 use Rattle.theory.proofs.Rows.Along.{along}
@@ -64,45 +62,47 @@ upward-once i base (suc n) l h = go (ℕ-discrete base i) (λ above. upward-once
 
 -- ---- The children that rows name
 
-unfoldable name : List ℕ → Row → List ℕ
+unfoldable add-children : List ℕ → Row → List ℕ
 unfolding row-children
-name cs w = cs ++ row-children w
+add-children cs w = cs ++ row-children w
 
-named-along : (ws : List Row) → named (columns ws) (length ws) ≡ foldl name [] ws
-unfolding named name
-named-along ws = along name (named (columns ws)) ws (λ n. refl)
+named-along : (ws : List Row) → named (columns ws) (length ws) ≡ foldl add-children [] ws
+unfolding named add-children
+named-along ws = along add-children (named (columns ws)) ws (λ n. refl)
 
 -- With its own entry, the rows of an expression name each of their entries once, and what was named before stays.
 rows-name : (i base : ℕ) (e : Expression) (cs : List ℕ)
-    → times i (foldl name cs (rows base e)) + times i ((base + pred (entries e)) ∷ []) ≡ times i cs + times i (upward base (entries e))
-unfolding rows name upward
+    → times i (foldl add-children cs (rows base e)) + times i ((base + pred (entries e)) ∷ []) ≡ times i cs + times i (upward base (entries e))
+unfolding rows add-children upward
 rows-name i base ∅ cs = rw (append-nil, add-zero)
 rows-name i base ε cs = rw (append-nil, add-zero)
 rows-name i base (letter a) cs = rw (append-nil, add-zero)
 rows-name i base (binary s x y) cs =
     let l = base + pred (entries x) in
     let r = base + entries x + pred (entries y) in
-    let xs = foldl name cs (rows base x) in
-    let ys = foldl name xs (rows (base + entries x) y) in
+    let xs = foldl add-children cs (rows base x) in
+    let ys = foldl add-children xs (rows (base + entries x) y) in
     rw (foldl-append, foldl-append, sign-meaning)
-      (omega (
-        arith,
-        rows-name i base x cs,
-        rows-name i (base + entries x) y xs,
-        times-append i ys (l ∷ r ∷ []),
-        times-pair i l r,
-        times-upward-add i base (entries x) (entries y),
-        times-upward-suc i base (entries x + entries y)))
+    (omega (
+      arith,
+      rows-name i base x cs,
+      rows-name i (base + entries x) y xs,
+      times-append i ys (l ∷ r ∷ []),
+      times-pair i l r,
+      times-upward-add i base (entries x) (entries y),
+      times-upward-suc i base (entries x + entries y),
+    ))
 rows-name i base (star x) cs =
-    let xs = foldl name cs (rows base x) in
+    let xs = foldl add-children cs (rows base x) in
     rw foldl-append
-      (omega (arith, rows-name i base x cs, times-append i xs ((base + pred (entries x)) ∷ []), times-upward-suc i base (entries x)))
+    (omega (arith, rows-name i base x cs, times-append i xs ((base + pred (entries x)) ∷ []), times-upward-suc i base (entries x)))
 
-named-rows : (e : Expression) → named (columns (rows 0 e)) (entries e) ≡ foldl name [] (rows 0 e)
+named-rows : (e : Expression) → named (columns (rows 0 e)) (entries e) ≡ foldl add-children [] (rows 0 e)
 named-rows e = rw rows-length at (named-along (rows 0 e))
 
 pub rows-named-once : (e : Expression) (i : ℕ) → i < pred (entries e) → times i (named (columns (rows 0 e)) (entries e)) ≡ 1
 unfolding times
 rows-named-once e i l =
-    rw named-rows
-      (omega (arith, rows-name i 0 e [], times-other i (0 + pred (entries e)) (omega arith), upward-once i 0 (entries e) (omega arith) (omega arith)))
+    let own = times-other i (0 + pred (entries e)) (omega arith) in
+    let all = upward-once i 0 (entries e) (omega arith) (omega arith) in
+    rw named-rows (omega (arith, rows-name i 0 e []))

@@ -1,13 +1,12 @@
 -- The rows of an expression make a table whose trees are the expression's parts, its own tree last.
-use Prim.Native.Nat.{ℕ, zero, suc, _+_, pred, _<_}
-use native.Mathlib.Nat.{zero-add, add-zero}
+use Prim.Native.Nat.{ℕ, _+_, pred, _<_}
 use native.Mathlib.Omega.{arith}
-use mathlib.Core.Path.{_≡_, refl, ap, sym, _∙_}
+use mathlib.Core.Path.{_≡_, refl, _∙_}
 use mathlib.Core.List.{List, [], _∷_, _++_, foldl, append-assoc, foldl-append}
 use lib.ListN.{length, length-append, length-map, getD, List·getD-append}
 use lib.Seq.{getD-at, getD-append-add}
 use Rattle.theory.specs.Expression.{Expression, Sign, union, concatenation, shuffle, ∅, ε, letter, binary, star, entries, parts}
-use Rattle.theory.specs.Table.{Table, Row, row, columns, kind-of-sign, meaning, sign-kind, row-tree, trees, tree, size}
+use Rattle.theory.specs.Table.{Row, columns, kind-of-sign, meaning, sign-kind, row-tree, trees, tree, size}
 use Rattle.theory.specs.Grammar.{rows}
 use Rattle.theory.proofs.Rows.Along.{along}
 
@@ -40,8 +39,8 @@ unfolding parts entries
 parts-last ∅ = refl
 parts-last ε = refl
 parts-last (letter a) = refl
-parts-last (binary s x y) = getD-at (parts x ++ parts y) (binary s x y) [] ∅ (pred (suc (entries x + entries y))) (simp length-append (omega (arith, parts-length x, parts-length y)))
-parts-last (star x) = getD-at (parts x) (star x) [] ∅ (pred (suc (entries x))) (omega (arith, parts-length x))
+parts-last (binary s x y) = getD-at (parts x ++ parts y) (binary s x y) [] ∅ (entries x + entries y) (simp (length-append, parts-length))
+parts-last (star x) = getD-at (parts x) (star x) [] ∅ (entries x) (parts-length x)
 
 pub sign-meaning : (s : Sign) → meaning (kind-of-sign s) ≡ sign-kind s
 unfolding meaning kind-of-sign
@@ -65,8 +64,8 @@ own-tree ts e = rw getD-append-add (parts-last e)
 own-tree-stays : (ts : List Expression) (e : Expression) (us : List Expression)
     → getD (ts ++ parts e ++ us) (length ts + pred (entries e)) ∅ ≡ e
 own-tree-stays ts e us =
-    let inside : length ts + pred (entries e) < length (ts ++ parts e) =
-        simp length-append (omega (arith, parts-length e, entries-positive e)) in
+    let positive = entries-positive e in
+    let inside : length ts + pred (entries e) < length (ts ++ parts e) = simp (length-append, parts-length) (omega arith) in
     rw List·getD-append (own-tree ts e)
 
 grow-rows : (e : Expression) (ts : List Expression) → foldl grow ts (rows (length ts) e) ≡ ts ++ parts e
@@ -76,7 +75,9 @@ grow-rows ε ts = refl
 grow-rows (letter a) ts = refl
 grow-rows (binary s x y) ts =
     let here : length (ts ++ parts x) ≡ length ts + entries x = simp (length-append, parts-length) in
-    rw (foldl-append, foldl-append, grow-rows x ts, ← here, grow-rows y (ts ++ parts x), sign-meaning, own-tree-stays ts x (parts y), own-tree (ts ++ parts x) y) (simp append-assoc)
+    let left = own-tree-stays ts x (parts y) in
+    let right = own-tree (ts ++ parts x) y in
+    rw (foldl-append, foldl-append, grow-rows x ts, ← here, grow-rows y (ts ++ parts x), sign-meaning, left, right) (simp append-assoc)
 grow-rows (star x) ts = rw (foldl-append, grow-rows x ts, own-tree) (simp append-assoc)
 
 -- The trees of the rows are the parts.
