@@ -1,4 +1,6 @@
 pub mod Below
 pub mod Distinct
-pub mod Examples
 pub mod Language
+pub mod Grammar
+pub mod Rows
+pub mod Examples
