@@ -1,2 +1,5 @@
+pub mod Derivative
 pub mod Distinct
 pub mod Examples
+pub mod Members
+pub mod Support
