@@ -2,4 +2,5 @@ pub mod Derivative
 pub mod Distinct
 pub mod Examples
 pub mod Members
+pub mod States
 pub mod Support
