@@ -1,3 +1,4 @@
+pub mod Bounds
 pub mod Derivative
 pub mod Distinct
 pub mod Examples

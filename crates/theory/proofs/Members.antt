@@ -9,8 +9,13 @@ use mathlib.Core.List.{List, [], _∷_, _++_, map, flatMap, List·Memᴰ, List·
 use lib.ListN.{length, length-append, length-map}
 use Rattle.theory.proofs.Distinct.{Within}
 
+-- What follows in the first list from the first half, and in the second from the second, follows in both together.
+pub either-half : {A B : Type 0} {a : A} {z : B} (us : List B) {vs : List B} (xs ys : List A) → (List·Memᴰ z us → List·Memᴰ a xs) → (List·Memᴰ z vs → List·Memᴰ a ys)
+    → List·Memᴰ z (us ++ vs) → List·Memᴰ a (xs ++ ys)
+either-half us xs ys p q m = ⊎-elim (λ h. Memᴰ·append-left ys (p h)) (λ h. Memᴰ·append-right xs (q h)) (List·Memᴰ·append-cases us m)
+
 pub within-append : {A : Type 0} (xs us : List A) {ys vs : List A} → Within xs us → Within ys vs → Within (xs ++ ys) (us ++ vs)
-within-append xs us {vs = vs} p q z m = ⊎-elim (λ h. Memᴰ·append-left vs (p z h)) (λ h. Memᴰ·append-right us (q z h)) (List·Memᴰ·append-cases xs m)
+within-append xs us {vs = vs} p q z = either-half xs us vs (p z) (q z)
 
 -- Both halves are within one list.
 pub within-both : {A : Type 0} (xs : List A) {ys us : List A} → Within xs us → Within ys us → Within (xs ++ ys) us

@@ -1,5 +1,6 @@
 -- 004's π as a list, and 004's Propositions 1 and 2: the derivatives of an expression, and those of the members of its π, are members of its π,
 -- and π with the expression has at most 2 to the number of letters members. Leans on `Derivative` and `Members`.
+pub mod Inherited
 use Prim.Native.Nat.{ℕ, zero, suc, _+_, _*_, _^_, _≤_}
 use native.Mathlib.Nat.{le-trans, le-refl, mul-le-mul, suc-mul, mul-suc}
 use native.Mathlib.Omega.{arith}
