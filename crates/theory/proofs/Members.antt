@@ -1,13 +1,13 @@
 -- Members and lengths of lists that are put together from others: one after another, by a function on each member, and by pairs.
 -- Leans on `Distinct` alone.
-use Prim.Native.Nat.{ℕ, zero, suc, _+_, _*_, _≤_, zero-le}
+use Prim.Native.Nat.{ℕ, _*_, _≤_, zero-le}
 use native.Mathlib.Nat.{le-trans, mul-le-mul-right, suc-mul, zero-mul}
 use native.Mathlib.Omega.{arith}
 use mathlib.Core.Path.{_≡_, refl, sym, ap, ap₂, _∙_, subst}
 use mathlib.Core.Logic.{_⊎_, inl, inr, ⊎-elim}
 use mathlib.Core.List.{List, [], _∷_, _++_, map, flatMap, List·Memᴰ, List·Memᴰ·head, List·Memᴰ·tail, List·Memᴰ·cases-cons, List·Memᴰ·append-cases, List·Memᴰ·not-nil, Memᴰ·cast, Memᴰ·map, Memᴰ·of-map, Memᴰ·append-left, Memᴰ·append-right, append-assoc}
 use lib.ListN.{length, length-append, length-map}
-use Rattle.theory.proofs.Distinct.{Within}
+use Rattle.theory.proofs.Distinct.{NoRepeats, Within, no-longer}
 
 -- What follows in the first list from the first half, and in the second from the second, follows in both together.
 pub either-half : {A B : Type 0} {a : A} {z : B} (us : List B) {vs : List B} (xs ys : List A) → (List·Memᴰ z us → List·Memᴰ a xs) → (List·Memᴰ z vs → List·Memᴰ a ys)
@@ -57,6 +57,44 @@ module _ {A B : Type 0} where
       let ih = length-flatMap f k xs (λ y m. b y (List·Memᴰ·tail m)) in
       let h = b x (List·Memᴰ·head refl) in
       rw (length-append, suc-mul) (omega arith)
+
+-- At most k for each member that has any, where those are all in one list.
+module _ {A B : Type 0} (f : A → List B) (k : ℕ) where
+  -- the members of xs that have any
+  record Having (xs : List A) : Type 0 where
+    kept : List A
+    once : NoRepeats kept
+    among : Within kept xs
+    some : (x : A) → List·Memᴰ x kept → (z : B) × List·Memᴰ z (f x)
+    bound : length (flatMap f xs) ≤ length kept * k
+
+  having : (xs : List A) → NoRepeats xs → ((x : A) → length (f x) ≤ k) → Having xs
+  unfolding flatMap
+  having [] r b = record { kept = []; once = tt; among = λ z m. m; some = λ x m. absurd (List·Memᴰ·not-nil m); bound = zero-le }
+  having (x ∷ xs) r b = go (f x) refl (having xs (r .1) b)
+    where
+      go : (l : List B) → f x ≡ l → Having xs → Having (x ∷ xs)
+      go [] e h = record {
+        kept = h .kept;
+        once = h .once;
+        among = λ z m. List·Memᴰ·tail (h .among z m);
+        some = h .some;
+        bound = rw e (h .bound);
+      }
+      go (z ∷ l) e h = record {
+        kept = x ∷ h .kept;
+        once = (λ m. r .0 (h .among x m), h .once);
+        among = λ w m. ⊎-elim (λ p. List·Memᴰ·head p) (λ t. List·Memᴰ·tail (h .among w t)) (List·Memᴰ·cases-cons m);
+        some = λ w m. ⊎-elim
+            (λ p. (z, subst (λ t. List·Memᴰ z t) (sym (ap f p ∙ e)) (List·Memᴰ·head refl))) (h .some w) (List·Memᴰ·cases-cons m);
+        bound = let s = b x in let t = h .bound in rw (length-append, suc-mul) (omega arith);
+      }
+
+  pub length-flatMap-among : Discrete A → (xs ys : List A) → NoRepeats xs → ((x : A) → length (f x) ≤ k)
+      → ((x : A) (z : B) → List·Memᴰ z (f x) → List·Memᴰ x ys) → length (flatMap f xs) ≤ length ys * k
+  length-flatMap-among same xs ys r b w =
+      let h = having xs r b in
+      le-trans (h .bound) (mul-le-mul-right k (no-longer same (h .kept) ys (h .once) (λ x m. let s = h .some x m in w x (s .0) (s .1))))
 
 -- f of each x and each y
 module _ {A B C : Type 0} (f : A → B → C) where

@@ -3,10 +3,10 @@
 use Prim.Native.Nat.{ℕ, zero, suc, _+_, _^_, _≤_, _<_, zero-le, suc-le-suc}
 use native.Mathlib.Nat.{le-trans, le-antisymm}
 use native.Mathlib.Omega.{arith}
-use mathlib.Core.Path.{_≡_, refl, sym, ap, _∙_, subst}
-use mathlib.Core.Logic.{_⊎_, inl, inr, ⊎-elim}
+use mathlib.Core.Path.{_≡_, refl, ap, _∙_, subst}
+use mathlib.Core.Logic.{⊎-elim}
 use mathlib.Core.Bool.{Bool, true, false}
-use mathlib.Core.List.{List, [], _∷_, _++_, flatMap, append-nil, List·Memᴰ, List·Memᴰ·head, List·Memᴰ·tail, List·Memᴰ·cases-cons, List·Memᴰ·not-nil, List·Memᴰ·eq-of-singleton, Memᴰ·cast, Memᴰ·append-right}
+use mathlib.Core.List.{List, [], _∷_, _++_, flatMap, append-nil, List·Memᴰ, List·Memᴰ·head, List·Memᴰ·tail, List·Memᴰ·cases-cons, List·Memᴰ·not-nil, List·Memᴰ·eq-of-singleton}
 use lib.ListN.{length, length-append, getD}
 use lib.Dec.{eqb}
 use borrow.Author.Tests.{eqb-true, eqb-false}
@@ -73,6 +73,10 @@ derived-support (itself h) = List·Memᴰ·head h
 derived-support {e} {m} (Derived.onward {x = x} d h) =
     let r = successors-of x h in List·Memᴰ·tail (stays (support-stays e) x (derived-support d) (r .0) m (r .1))
 
+-- A list of partial derivatives without repeats is no longer than 004's bound.
+pub derived-bound : (e : Expression) (s : List Expression) → NoRepeats s → ((m : Expression) → List·Memᴰ m s → Derived e m) → length s ≤ 2 ^ length (letters e)
+derived-bound e s r d = le-trans (no-longer same s (e ∷ support e) r (λ m h. derived-support (d m h))) (support-bound e)
+
 -- ---- The rounds
 
 -- What the rounds keep of a list of expressions that grows to the states of e.
@@ -87,9 +91,6 @@ growing-first e = record
 
 growing-met : (e : Expression) (s : List Expression) → Growing e s → Growing e (met e s)
 growing-met e s g = record { begins = met-begins e (g .begins); no-repeats = met-no-repeats e s; derived = met-derived e s (g .derived) }
-
-pub growing-bound : {e : Expression} {s : List Expression} → Growing e s → length s ≤ 2 ^ length (letters e)
-growing-bound {e} {s} g = le-trans (no-longer same s (e ∷ support e) (g .no-repeats) (λ m h. derived-support (g .derived m h))) (support-bound e)
 
 rounds-keep : (P : List Expression → Type 0) (e : Expression) → ((s : List Expression) → P s → P (met e s)) → (k : ℕ) (s : List Expression) → P s → P (rounds k e s)
 unfolding rounds
@@ -112,7 +113,7 @@ begins-longer {t} {s} b = let l = simp length-append at (ap length (b .goes-on))
 
 rounds-complete : (k : ℕ) (e : Expression) (s : List Expression) → Growing e s → 2 ^ length (letters e) < length s + k → met e (rounds k e s) ≡ rounds k e s
 unfolding rounds
-rounds-complete zero e s g h = let b = growing-bound g in absurd (omega arith)
+rounds-complete zero e s g h = let b = derived-bound e s (g .no-repeats) (g .derived) in absurd (omega arith)
 rounds-complete (suc k) e s g h = go (eqb (length (met e s)) (length s)) refl (rounds-complete k e (met e s) (growing-met e s g))
   where
     next : List Expression

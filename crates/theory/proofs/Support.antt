@@ -1,21 +1,25 @@
 -- 004's π as a list, and 004's Propositions 1 and 2: the derivatives of an expression, and those of the members of its π, are members of its π,
 -- and π with the expression has at most 2 to the number of letters members. Leans on `Derivative` and `Members`.
 pub mod Inherited
-use Prim.Native.Nat.{ℕ, zero, suc, _+_, _*_, _^_, _≤_}
+use Prim.Native.Nat.{ℕ, suc, _+_, _*_, _^_, _≤_}
 use native.Mathlib.Nat.{le-trans, le-refl, mul-le-mul, suc-mul, mul-suc}
 use native.Mathlib.Omega.{arith}
 use mathlib.Core.Path.{_≡_, refl, sym, ap, _∙_, subst}
-use mathlib.Core.Logic.{_⊎_, inl, inr, ⊎-elim}
+use mathlib.Core.Logic.{⊎-elim}
 use mathlib.Core.Bool.{Bool, true, false, cond}
 use mathlib.Core.List.{List, [], _∷_, _++_, map, List·Memᴰ, List·Memᴰ·head, List·Memᴰ·tail, List·Memᴰ·cases-cons, List·Memᴰ·append-cases, List·Memᴰ·eq-of-singleton, List·Memᴰ·not-nil, Memᴰ·cast, Memᴰ·map, Memᴰ·of-map, Memᴰ·append-left, Memᴰ·append-right}
 use lib.ListN.{length, length-append, length-map}
 use lib.Dec.{eqb}
 use lib.Pow.{pow-add}
-use Rattle.theory.specs.Expression.{Expression, same, Sign, ∅, ε, letter, binary, star, union, concatenation, shuffle, letters}
+use Rattle.theory.specs.Expression.{Expression, Sign, ∅, ε, letter, binary, star, union, concatenation, shuffle, letters}
 use Rattle.theory.specs.Derivative.{empty-word, joined, derivative}
 use Rattle.theory.proofs.Distinct.{Within}
 use Rattle.theory.proofs.Derivative.{gathered, derivative-of, Joins, derivative-joined}
 use Rattle.theory.proofs.Members.{within-append, within-both, within-map, pairs, to-pairs, pairs-of, length-pairs}
+
+-- m followed by y
+abbrev pub followed-by : Expression → Expression → Expression
+followed-by y m = joined concatenation m y
 
 -- 004's π (x ⧢ y), from x with π x and y with π y: all but x ⧢ y itself.
 unfoldable pub shuffled : Expression → List Expression → Expression → List Expression → List Expression
@@ -26,9 +30,9 @@ support ∅ = []
 support ε = []
 support (letter a) = ε ∷ []
 support (binary union x y) = support x ++ support y
-support (binary concatenation x y) = map (λ m. joined concatenation m y) (support x) ++ support y
+support (binary concatenation x y) = map (followed-by y) (support x) ++ support y
 support (binary shuffle x y) = shuffled x (support x) y (support y)
-support (star x) = map (λ m. joined concatenation m (star x)) (support x)
+support (star x) = map (followed-by (star x)) (support x)
 
 -- ---- The derivatives stay within
 
@@ -68,37 +72,37 @@ of-joined : (s : Sign) → Joins s → (a : ℕ) (m n : Expression) {z : Express
 of-joined s j a m n {t = t} e = subst (λ d. Within d t) (sym (derivative-joined s j a m n) ∙ ap (derivative a) e)
 
 concatenation-within : (a : ℕ) (m y : Expression) {p q : List Expression} → Within (derivative a m) p → Within (derivative a y) q
-    → Within (derivative a (binary concatenation m y)) (map (λ n. joined concatenation n y) p ++ q)
+    → Within (derivative a (binary concatenation m y)) (map (followed-by y) p ++ q)
 unfolding gathered
 concatenation-within a m y {p} {q} h k z n =
-    within-append (map (λ n. joined concatenation n y) (derivative a m)) (map (λ n. joined concatenation n y) p)
-    (within-map (λ n. joined concatenation n y) (derivative a m) h) (go (empty-word m)) z (derivative-of a (binary concatenation m y) z n)
+    within-append (map (followed-by y) (derivative a m)) (map (followed-by y) p)
+    (within-map (followed-by y) (derivative a m) h) (go (empty-word m)) z (derivative-of a (binary concatenation m y) z n)
   where
     go : (t : Bool) → Within (cond t (derivative a y) []) q
     go true = k
     go false = λ z n. absurd (List·Memᴰ·not-nil n)
 
 module _ {x y : Expression} {p q : List Expression} (left : Stays x p) (right : Stays y q) where
-  concatenation-stays : Stays (binary concatenation x y) (map (λ m. joined concatenation m y) p ++ q)
+  concatenation-stays : Stays (binary concatenation x y) (map (followed-by y) p ++ q)
   concatenation-stays = record {
     first = λ a. concatenation-within a x y (left .first a) (right .first a);
     onward = λ m h a. ⊎-elim
-        (λ t. let r = Memᴰ·of-map (λ m. joined concatenation m y) p t in
+        (λ t. let r = Memᴰ·of-map (followed-by y) p t in
         of-joined concatenation tt a (r .0) y (r .2) (concatenation-within a (r .0) y (left .onward (r .0) (r .1) a) (right .first a)))
-        (λ t z n. Memᴰ·append-right (map (λ m. joined concatenation m y) p) (right .onward m t a z n)) (List·Memᴰ·append-cases (map (λ m. joined concatenation m y) p) h);
+        (λ t z n. Memᴰ·append-right (map (followed-by y) p) (right .onward m t a z n)) (List·Memᴰ·append-cases (map (followed-by y) p) h);
   }
 
 module _ {x : Expression} {p : List Expression} (inner : Stays x p) where
-  star-first : (a : ℕ) → Within (derivative a (star x)) (map (λ m. joined concatenation m (star x)) p)
+  star-first : (a : ℕ) → Within (derivative a (star x)) (map (followed-by (star x)) p)
   unfolding gathered
-  star-first a z m = within-map (λ m. joined concatenation m (star x)) (derivative a x) (inner .first a) z (derivative-of a (star x) z m)
+  star-first a z m = within-map (followed-by (star x)) (derivative a x) (inner .first a) z (derivative-of a (star x) z m)
 
-  star-stays : Stays (star x) (map (λ m. joined concatenation m (star x)) p)
+  star-stays : Stays (star x) (map (followed-by (star x)) p)
   star-stays = record {
     first = star-first;
-    onward = λ m h a. let r = Memᴰ·of-map (λ m. joined concatenation m (star x)) p h in
+    onward = λ m h a. let r = Memᴰ·of-map (followed-by (star x)) p h in
         of-joined concatenation tt a (r .0) (star x) (r .2)
-        (λ z n. within-both (map (λ m. joined concatenation m (star x)) p) (λ z m. m) (λ z m. m) z
+        (λ z n. within-both (map (followed-by (star x)) p) (λ z m. m) (λ z m. m) z
         (concatenation-within a (r .0) (star x) (inner .onward (r .0) (r .1) a) (star-first a) z n));
   }
 

@@ -1,11 +1,11 @@
 -- The parts of an expression, and those of the members of its support: each is the literal empty word, or a part of the expression or a member of the
 -- support of one.
-use Prim.Native.Nat.{ℕ, suc, _+_, _*_, _^_, _≤_}
-use native.Mathlib.Nat.{le-trans, le-refl, le-of-eq}
+use Prim.Native.Nat.{_+_, _*_, _^_, _≤_}
+use native.Mathlib.Nat.{le-trans, le-of-eq}
 use native.Mathlib.Omega.{arith}
-use mathlib.Core.Path.{_≡_, refl, sym, ap, _∙_, subst}
+use mathlib.Core.Path.{_≡_, refl, ap}
 use mathlib.Core.Logic.{_⊎_, inl, inr, ⊎-elim}
-use mathlib.Core.List.{List, [], _∷_, _++_, flatMap, List·Memᴰ, List·Memᴰ·head, List·Memᴰ·tail, List·Memᴰ·append-cases, List·Memᴰ·eq-of-singleton, List·Memᴰ·not-nil, Memᴰ·cast, Memᴰ·append-left, Memᴰ·append-right}
+use mathlib.Core.List.{List, _∷_, _++_, flatMap, List·Memᴰ, List·Memᴰ·head, List·Memᴰ·tail, List·Memᴰ·append-cases, List·Memᴰ·eq-of-singleton, Memᴰ·cast, Memᴰ·append-left, Memᴰ·append-right}
 use lib.ListN.{length, length-append}
 use lib.Pow.{pow-mono}
 use Rattle.theory.specs.Expression.{Expression, Sign, ∅, ε, letter, binary, star, concatenation, letters, parts, entries}
@@ -84,26 +84,30 @@ held-joined s e =
 
 held-inherited : Inherited AllHeld
 unfolding parts
-held-inherited = record
-  { itself = λ e z h. member z h (List·Memᴰ·head refl)
-  ; leaf = λ a z h. empty (List·Memᴰ·eq-of-singleton h)
-  ; left = λ s x y m k z h. held-within (part-left s x y) (k z h)
-  ; right = λ s x y m k z h. held-within (part-right s x y) (k z h)
-  ; both = λ s x y m n k l. held-joined s (binary s x y) m n (λ z h. held-within (part-left s x y) (k z h)) (λ z h. held-within (part-right s x y) (l z h))
-  ; again = λ x m k. held-joined concatenation (star x) m (star x) (λ z h. held-within (part-inner x) (k z h)) (λ z h. member z h (List·Memᴰ·head refl))
-  }
+held-inherited = record {
+  itself = λ e z h. member z h (List·Memᴰ·head refl);
+  leaf = λ a z h. empty (List·Memᴰ·eq-of-singleton h);
+  left = λ s x y m k z h. held-within (part-left s x y) (k z h);
+  right = λ s x y m k z h. held-within (part-right s x y) (k z h);
+  both = λ s x y m n k l. held-joined s (binary s x y) m n (λ z h. held-within (part-left s x y) (k z h)) (λ z h. held-within (part-right s x y) (l z h));
+  again = λ x m k. held-joined concatenation (star x) m (star x) (λ z h. held-within (part-inner x) (k z h)) (λ z h. member z h (List·Memᴰ·head refl));
+}
 
 -- ---- The list that holds them all
 
 pub cover : Expression → List Expression
 cover e = ε ∷ flatMap (λ p. p ∷ support p) (parts e)
 
+pub cover-ε : (e z : Expression) → z ≡ ε → List·Memᴰ z (cover e)
+unfolding cover
+cover-ε e z h = List·Memᴰ·head h
+
 pub parts-cover : (e m : Expression) → List·Memᴰ m (e ∷ support e) → Within (parts m) (cover e)
 unfolding cover
 parts-cover e m h z k = go (inherited AllHeld held-inherited e m h z k)
   where
     go : Held e z → List·Memᴰ z (cover e)
-    go (empty t) = List·Memᴰ·head t
+    go (empty t) = cover-ε e z t
     go (member p t u) = List·Memᴰ·tail (to-flatMap (λ p. p ∷ support p) t u)
 
 pub cover-bound : (e : Expression) → length (cover e) ≤ entries e * 2 ^ length (letters e) + 1

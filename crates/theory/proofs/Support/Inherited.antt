@@ -1,12 +1,12 @@
 -- What an expression hands on to the members of its support: a statement about an expression and a member holds for all of them where the joining
 -- rules and the signs keep it.
 use Prim.Native.Nat.{ℕ}
-use mathlib.Core.Path.{_≡_, refl, sym, subst}
-use mathlib.Core.Logic.{_⊎_, inl, inr, ⊎-elim}
-use mathlib.Core.List.{List, [], _∷_, _++_, map, List·Memᴰ, List·Memᴰ·head, List·Memᴰ·tail, List·Memᴰ·cases-cons, List·Memᴰ·append-cases, List·Memᴰ·eq-of-singleton, List·Memᴰ·not-nil, Memᴰ·cast, Memᴰ·of-map}
+use mathlib.Core.Path.{sym, subst}
+use mathlib.Core.Logic.{⊎-elim}
+use mathlib.Core.List.{_∷_, map, List·Memᴰ, List·Memᴰ·tail, List·Memᴰ·cases-cons, List·Memᴰ·append-cases, List·Memᴰ·eq-of-singleton, List·Memᴰ·not-nil, Memᴰ·cast, Memᴰ·of-map}
 use Rattle.theory.specs.Expression.{Expression, Sign, ∅, ε, letter, binary, star, union, concatenation, shuffle}
 use Rattle.theory.specs.Derivative.{joined}
-use Rattle.theory.proofs.Support.{support, shuffled-of}
+use Rattle.theory.proofs.Support.{followed-by, support, shuffled-of}
 
 pub record Inherited (P : Expression → Expression → Type 0) : Type 0 where
   pub itself : (e : Expression) → P e e
@@ -28,10 +28,10 @@ module _ (P : Expression → Expression → Type 0) (i : Inherited P) where
     unfolding support
     concatenation-inherited m h =
         ⊎-elim
-        (λ t. let f = Memᴰ·of-map (λ m. joined concatenation m y) (support x) t in
-          subst (P (binary concatenation x y)) (f .2)
-          (i .both concatenation x y (f .0) y (l (f .0) (List·Memᴰ·tail (f .1))) (i .itself y) (Memᴰ·cast (f .2) h)))
-        (λ t. i .right concatenation x y m (r m (List·Memᴰ·tail t))) (List·Memᴰ·append-cases (map (λ m. joined concatenation m y) (support x)) h)
+        (λ t. let f = Memᴰ·of-map (followed-by y) (support x) t in
+        subst (P (binary concatenation x y)) (f .2)
+        (i .both concatenation x y (f .0) y (l (f .0) (List·Memᴰ·tail (f .1))) (i .itself y) (Memᴰ·cast (f .2) h)))
+        (λ t. i .right concatenation x y m (r m (List·Memᴰ·tail t))) (List·Memᴰ·append-cases (map (followed-by y) (support x)) h)
 
     shuffle-inherited : (m : Expression) → List·Memᴰ m (support (binary shuffle x y)) → P (binary shuffle x y) m
     unfolding support
@@ -42,7 +42,7 @@ module _ (P : Expression → Expression → Type 0) (i : Inherited P) where
   star-inherited : (x : Expression) → ((m : Expression) → List·Memᴰ m (x ∷ support x) → P x m) → (m : Expression) → List·Memᴰ m (support (star x)) → P (star x) m
   unfolding support
   star-inherited x l m h =
-      let f = Memᴰ·of-map (λ m. joined concatenation m (star x)) (support x) h in
+      let f = Memᴰ·of-map (followed-by (star x)) (support x) h in
       subst (P (star x)) (f .2) (i .again x (f .0) (l (f .0) (List·Memᴰ·tail (f .1))) (Memᴰ·cast (f .2) h))
 
   letter-inherited : (a : ℕ) (m : Expression) → List·Memᴰ m (support (letter a)) → P (letter a) m
