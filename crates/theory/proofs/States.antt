@@ -64,7 +64,7 @@ pub derived-met : {e : Expression} {s : List Expression} → met e s ≡ s → {
 derived-met c (itself h) = known c (List·Memᴰ·head h)
 derived-met c (Derived.onward d h) = known c (List·Memᴰ·tail (to-flatMap successors (derived-met c d) h))
 
-successors-of : (x : Expression) {m : Expression} → List·Memᴰ m (successors x) → (a : ℕ) × List·Memᴰ m (derivative a x)
+pub successors-of : (x : Expression) {m : Expression} → List·Memᴰ m (successors x) → (a : ℕ) × List·Memᴰ m (derivative a x)
 unfolding successors
 successors-of x h = let r = flatMap-of (λ a. derivative a x) alphabet h in (r .0, r .2)
 
@@ -80,10 +80,10 @@ derived-bound e s r d = le-trans (no-longer same s (e ∷ support e) r (λ m h. 
 -- ---- The rounds
 
 -- What the rounds keep of a list of expressions that grows to the states of e.
-pub record Growing (e : Expression) (s : List Expression) : Type 0 where
-  pub begins : Begins s (met e s)
-  pub no-repeats : NoRepeats s
-  pub derived : (m : Expression) → List·Memᴰ m s → Derived e m
+record Growing (e : Expression) (s : List Expression) : Type 0 where
+  begins : Begins s (met e s)
+  no-repeats : NoRepeats s
+  derived : (m : Expression) → List·Memᴰ m s → Derived e m
 
 growing-first : (e : Expression) → Growing e (e ∷ [])
 growing-first e = record
@@ -149,8 +149,8 @@ states-zero e d = ap (λ t. getD t 0 d) (states-first e .goes-on)
 pub states-derived : (e m : Expression) → List·Memᴰ m (states e) → Derived e m
 states-derived e = states-growing e .derived
 
-pub derived-states : (e m : Expression) → Derived e m → List·Memᴰ m (states e)
-derived-states e m = derived-met (states-complete e)
+pub derived-states : {e m : Expression} → Derived e m → List·Memᴰ m (states e)
+derived-states {e} = derived-met (states-complete e)
 
 -- The equation alone does not pin the list: that of ε and a* solves it for ε.
 pub states-only : (e : Expression) (s : List Expression) → met e s ≡ s → ((m : Expression) → List·Memᴰ m s → Derived e m) → s ≡ states e
@@ -161,4 +161,4 @@ states-only e s c d = begins-same begins (le-antisymm shorter (begins-longer beg
     begins = rounds-keep (λ t. Begins t s) e (λ t b. subst (Begins (met e t)) c (met-begins e b)) (2 ^ length (letters e)) (e ∷ []) (subst (Begins (e ∷ [])) c (met-first e s))
 
     shorter : length s ≤ length (states e)
-    shorter = no-longer same s (states e) (subst NoRepeats c (met-no-repeats e s)) (λ m h. derived-states e m (d m h))
+    shorter = no-longer same s (states e) (subst NoRepeats c (met-no-repeats e s)) (λ m h. derived-states (d m h))

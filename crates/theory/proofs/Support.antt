@@ -59,14 +59,6 @@ letter-stays b = record {
     go true z m = m
     go false z m = absurd (List·Memᴰ·not-nil m)
 
-module _ {x y : Expression} {p q : List Expression} (left : Stays x p) (right : Stays y q) where
-  union-stays : Stays (binary union x y) (p ++ q)
-  unfolding gathered
-  union-stays = record {
-    first = λ a z m. within-append (derivative a x) p (left .first a) (right .first a) z (derivative-of a (binary union x y) z m);
-    onward = λ m h a. ⊎-elim (λ t z n. Memᴰ·append-left q (left .onward m t a z n)) (λ t z n. Memᴰ·append-right p (right .onward m t a z n)) (List·Memᴰ·append-cases p h);
-  }
-
 -- The derivative of what is joined, by that of the expression that the sign stands in.
 of-joined : (s : Sign) → Joins s → (a : ℕ) (m n : Expression) {z : Expression} {t : List Expression} → joined s m n ≡ z → Within (derivative a (binary s m n)) t → Within (derivative a z) t
 of-joined s j a m n {t = t} e = subst (λ d. Within d t) (sym (derivative-joined s j a m n) ∙ ap (derivative a) e)
@@ -81,30 +73,6 @@ concatenation-within a m y {p} {q} h k z n =
     go : (t : Bool) → Within (cond t (derivative a y) []) q
     go true = k
     go false = λ z n. absurd (List·Memᴰ·not-nil n)
-
-module _ {x y : Expression} {p q : List Expression} (left : Stays x p) (right : Stays y q) where
-  concatenation-stays : Stays (binary concatenation x y) (map (followed-by y) p ++ q)
-  concatenation-stays = record {
-    first = λ a. concatenation-within a x y (left .first a) (right .first a);
-    onward = λ m h a. ⊎-elim
-        (λ t. let r = Memᴰ·of-map (followed-by y) p t in
-        of-joined concatenation tt a (r .0) y (r .2) (concatenation-within a (r .0) y (left .onward (r .0) (r .1) a) (right .first a)))
-        (λ t z n. Memᴰ·append-right (map (followed-by y) p) (right .onward m t a z n)) (List·Memᴰ·append-cases (map (followed-by y) p) h);
-  }
-
-module _ {x : Expression} {p : List Expression} (inner : Stays x p) where
-  star-first : (a : ℕ) → Within (derivative a (star x)) (map (followed-by (star x)) p)
-  unfolding gathered
-  star-first a z m = within-map (followed-by (star x)) (derivative a x) (inner .first a) z (derivative-of a (star x) z m)
-
-  star-stays : Stays (star x) (map (followed-by (star x)) p)
-  star-stays = record {
-    first = star-first;
-    onward = λ m h a. let r = Memᴰ·of-map (followed-by (star x)) p h in
-        of-joined concatenation tt a (r .0) (star x) (r .2)
-        (λ z n. within-both (map (followed-by (star x)) p) (λ z m. m) (λ z m. m) z
-        (concatenation-within a (r .0) (star x) (inner .onward (r .0) (r .1) a) (star-first a) z n));
-  }
 
 module _ (x y : Expression) {p q : List Expression} where
   -- a member of π x, with y or a member of π y
@@ -141,6 +109,22 @@ shuffled-of x y p q {z} h = ⊎-elim both (λ t. ⊎-elim left right (List·Mem�
     right t = let r = Memᴰ·of-map (λ n. joined shuffle x n) q t in (x, r .0, List·Memᴰ·head refl, List·Memᴰ·tail (r .1), r .2)
 
 module _ {x y : Expression} {p q : List Expression} (left : Stays x p) (right : Stays y q) where
+  union-stays : Stays (binary union x y) (p ++ q)
+  unfolding gathered
+  union-stays = record {
+    first = λ a z m. within-append (derivative a x) p (left .first a) (right .first a) z (derivative-of a (binary union x y) z m);
+    onward = λ m h a. ⊎-elim (λ t z n. Memᴰ·append-left q (left .onward m t a z n)) (λ t z n. Memᴰ·append-right p (right .onward m t a z n)) (List·Memᴰ·append-cases p h);
+  }
+
+  concatenation-stays : Stays (binary concatenation x y) (map (followed-by y) p ++ q)
+  concatenation-stays = record {
+    first = λ a. concatenation-within a x y (left .first a) (right .first a);
+    onward = λ m h a. ⊎-elim
+        (λ t. let r = Memᴰ·of-map (followed-by y) p t in
+        of-joined concatenation tt a (r .0) y (r .2) (concatenation-within a (r .0) y (left .onward (r .0) (r .1) a) (right .first a)))
+        (λ t z n. Memᴰ·append-right (map (followed-by y) p) (right .onward m t a z n)) (List·Memᴰ·append-cases (map (followed-by y) p) h);
+  }
+
   shuffle-within : (a : ℕ) {m n : Expression} → List·Memᴰ m (x ∷ p) → List·Memᴰ n (y ∷ q) → Within (derivative a (binary shuffle m n)) (shuffled x p y q)
   unfolding gathered
   shuffle-within a {m} {n} h k z d =
@@ -155,6 +139,20 @@ module _ {x y : Expression} {p q : List Expression} (left : Stays x p) (right : 
   shuffle-stays = record {
     first = λ a. shuffle-within a (List·Memᴰ·head refl) (List·Memᴰ·head refl);
     onward = λ z h a. let r = shuffled-of x y p q h in of-joined shuffle tt a (r .0) (r .1) (r .4) (shuffle-within a (r .2) (r .3));
+  }
+
+module _ {x : Expression} {p : List Expression} (inner : Stays x p) where
+  star-first : (a : ℕ) → Within (derivative a (star x)) (map (followed-by (star x)) p)
+  unfolding gathered
+  star-first a z m = within-map (followed-by (star x)) (derivative a x) (inner .first a) z (derivative-of a (star x) z m)
+
+  star-stays : Stays (star x) (map (followed-by (star x)) p)
+  star-stays = record {
+    first = star-first;
+    onward = λ m h a. let r = Memᴰ·of-map (followed-by (star x)) p h in
+        of-joined concatenation tt a (r .0) (star x) (r .2)
+        (λ z n. within-both (map (followed-by (star x)) p) (λ z m. m) (λ z m. m) z
+        (concatenation-within a (r .0) (star x) (inner .onward (r .0) (r .1) a) (star-first a) z n));
   }
 
 -- 004, Proposition 1 and 2

@@ -1,4 +1,5 @@
--- The letters of an expression: a derivative that has a member is by one of them, and the members of the support have no others.
+-- The letters of an expression: a derivative that has a member is by one of them, and the members of the support have no
+-- others. Leans on `Derivative` and `Support.Inherited`.
 use Prim.Native.Nat.{ℕ}
 use mathlib.Core.Path.{_≡_, refl}
 use mathlib.Core.Bool.{Bool, true, false, cond}

@@ -1,5 +1,5 @@
 -- The parts of an expression, and those of the members of its support: each is the literal empty word, or a part of the expression or a member of the
--- support of one.
+-- support of one; with how many these are. Leans on `Support.Inherited` and `support-bound`.
 use Prim.Native.Nat.{_+_, _*_, _^_, _≤_}
 use native.Mathlib.Nat.{le-trans, le-of-eq}
 use native.Mathlib.Omega.{arith}

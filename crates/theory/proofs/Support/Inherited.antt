@@ -1,5 +1,5 @@
 -- What an expression hands on to the members of its support: a statement about an expression and a member holds for all of them where the joining
--- rules and the signs keep it.
+-- rules and the signs keep it. Leans on `Support` alone.
 use Prim.Native.Nat.{ℕ}
 use mathlib.Core.Path.{sym, subst}
 use mathlib.Core.Logic.{⊎-elim}
