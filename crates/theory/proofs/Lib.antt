@@ -1,6 +1,11 @@
 pub mod Below
 pub mod Distinct
+pub mod Members
 pub mod Language
+pub mod Derivative
+pub mod Support
+pub mod States
+pub mod Bounds
 pub mod Grammar
 pub mod Rows
 pub mod Examples
