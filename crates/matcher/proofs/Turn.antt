@@ -31,7 +31,8 @@ turned-none current next =
       handed = λ t. ap (λ (b : Bool). cond b (bit next t) (bit current t)) (sym (le-ltb (t / 64) 0 (omega arith)));
       cleared = λ t. ap (λ (b : Bool). cond b false (bit next t)) (sym (le-ltb (t / 64) 0 (omega arith)));
       ahead = λ k _. refl;
-      set-so-far = refl }
+      set-so-far = refl;
+    }
 
 -- A store at word i of a column of which the words below i hold q, and the others what `rest` holds.
 store : (rest column : List ℕ) (i v : ℕ) (q : ℕ → Bool) → i < length column
@@ -61,10 +62,11 @@ turned-more {current₀} {next₀} {current} {next} {any} {i} r lc ln small =
       current-length = length-set current i (getD next i 0) ∙ r .current-length;
       next-length = length-set next i 0 ∙ r .next-length;
       handed =
-        store current₀ current i (getD next i 0) (bit next₀) lc (r .handed)
-        (λ t p. ap (λ (w : ℕ). digit w (t % 64)) (word ∙ ap (λ (k : ℕ). getD next₀ k 0) (sym p)));
+          store current₀ current i (getD next i 0) (bit next₀) lc (r .handed)
+          (λ t p. ap (λ (w : ℕ). digit w (t % 64)) (word ∙ ap (λ (k : ℕ). getD next₀ k 0) (sym p)));
       cleared = store next₀ next i 0 (λ t. false) ln (r .cleared) (λ t p. digit-zero (t % 64));
       ahead = λ k l. getD-set-other next i k 0 0 (λ p. omega arith) ∙ r .ahead k (omega arith);
       set-so-far =
-        ap₂ (λ (b : Bool) (w : ℕ). b || not (eqb w 0)) (r .set-so-far) word
-        ∙ sym (some-block next₀ i (subst (λ (w : ℕ). w < 2 ^ 64) word small)) }
+          ap₂ (λ (b : Bool) (w : ℕ). b || not (eqb w 0)) (r .set-so-far) word
+          ∙ sym (some-block next₀ i (subst (λ (w : ℕ). w < 2 ^ 64) word small));
+    }

@@ -172,11 +172,11 @@ pub some-block : (words : List ℕ) (i : ℕ) → getD words i 0 < 2 ^ 64
 some-block words i l =
     ap (λ (n : ℕ). some-below n (bit words)) (next-block i) ∙ some-add (i * 64) 64 (bit words)
     ∙ ap (λ (b : Bool). some-below (i * 64) (bit words) || b)
-      (some-cong 64 (λ j. bit words (i * 64 + j)) (digit (getD words i 0)) (bit-block words i) ∙ sym (word-set 64 (getD words i 0) l))
+    (some-cong 64 (λ j. bit words (i * 64 + j)) (digit (getD words i 0)) (bit-block words i) ∙ sym (word-set 64 (getD words i 0) l))
 
 pub count-block : (words : List ℕ) (i : ℕ) → getD words i 0 < 2 ^ 64
     → count-below ((i + 1) * 64) (bit words) ≡ count-below (i * 64) (bit words) + ones (getD words i 0)
 count-block words i l =
     ap (λ (n : ℕ). count-below n (bit words)) (next-block i) ∙ count-add (i * 64) 64 (bit words)
     ∙ ap (λ (n : ℕ). count-below (i * 64) (bit words) + n)
-      (count-cong 64 (λ j. bit words (i * 64 + j)) (digit (getD words i 0)) (bit-block words i) ∙ sym (word-count 64 (getD words i 0) l))
+    (count-cong 64 (λ j. bit words (i * 64 + j)) (digit (getD words i 0)) (bit-block words i) ∙ sym (word-count 64 (getD words i 0) l))

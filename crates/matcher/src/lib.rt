@@ -5,7 +5,8 @@ mod checks;
 mod moves;
 
 ghost use lib.ListN.{length};
-ghost use Rattle.theory.specs.Record.{handed, Judged};
+ghost use Rattle.theory.specs.Record.{handed};
+ghost use Rattle.theory.specs.Judge.{Judged};
 ghost use Rattle.matcher.specs.Answer.{values};
 
 // 01, "Reading a record": refused with 1, 10 or 11 (place 0), or a verdict.

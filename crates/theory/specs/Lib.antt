@@ -9,3 +9,5 @@ pub mod Table
 pub mod Grammar
 pub mod Scan
 pub mod Record
+pub mod Read
+pub mod Judge

@@ -1,7 +1,6 @@
 -- 01, "Reading a record": over any columns, whoever made them: the states that a record reaches, the verdict, its place, live, and
 -- refusals 1, 10 and 11 of the matcher.
 use Prim.Native.Nat.{ℕ, zero, suc, _+_, _/_}
-use mathlib.Core.Path.{_≡_}
 use mathlib.Core.Bool.{Bool, true, false, cond, not, _&&_, _||_}
 use mathlib.Core.List.{List, [], _∷_, map}
 use mathlib.Core.Option.{Option, none, some}
@@ -10,7 +9,6 @@ use lib.Dec.{eqb, leb, ltb}
 use Rattle.theory.specs.Expression.{Expression}
 use Rattle.theory.specs.Language.{Word}
 use Rattle.theory.specs.Automaton.{Arc, states, accepting, arcs}
-use Rattle.theory.specs.Column.{zeros}
 use Rattle.theory.specs.Refusal.{Refusal, refusal, success, columns-differ, automaton-malformed, work-short}
 
 -- 01: "The matcher takes a state count, the accepting column, an arc count, the arc columns".
@@ -148,32 +146,3 @@ matcher-refusal h now next =
     cond (not (eqb (length (h .letter)) (length (h .from)) && eqb (length (h .to)) (length (h .from)))) (refusal columns-differ 0)
     (cond (not (well-formed h)) (refusal automaton-malformed 0)
     (cond (ltb now (words (h .states)) || ltb next (words (h .states))) (refusal work-short 0) success))
-
--- ---- The matcher's promise
-
--- The answer as numbers: the refusal, the verdict (1 accepted, 2 unfinished, 3 wrong, and 0 where the call is refused), its place, and live.
-pub record Judgement : Type 0 where
-  pub refusal : Refusal
-  pub verdict : ℕ
-  pub place : ℕ
-  pub live : ℕ
-
-abbrev pub given : Verdict → ℕ → Judgement
-given accepted n = record { refusal = success; verdict = 1; place = 0; live = n }
-given unfinished n = record { refusal = success; verdict = 2; place = 0; live = n }
-given (wrong p) n = record { refusal = success; verdict = 3; place = p; live = n }
-
--- 01: "A refusal returns its number and place and zero in every count".
-abbrev pub withheld : Refusal → Judgement
-withheld r = record { refusal = r; verdict = 0; place = 0; live = 0 }
-
-unfoldable pub judgement : Handed → ℕ → ℕ → Word → Judgement
-unfolding matcher-refusal verdict live
-judgement h now next w =
-    elim (eqb ((matcher-refusal h now next) .number) 0) [ true ↦ given (verdict h w) (live h w) | false ↦ withheld (matcher-refusal h now next) ]
-
--- What `judge` owes: the answer, and both work columns zero whole on every way out (01: "Work columns are zero afterwards").
-pub record Judged (h : Handed) (w : Word) (now next : List ℕ) (answer : Judgement) (now′ next′ : List ℕ) : Type 0 where
-  pub answers : answer ≡ judgement h (length now) (length next) w
-  pub now-zero : now′ ≡ zeros (length now)
-  pub next-zero : next′ ≡ zeros (length next)

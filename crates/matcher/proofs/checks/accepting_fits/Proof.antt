@@ -38,10 +38,11 @@ loop-less c = search needs
 
 -- src/checks.rt:16:5
 loop-again : tie.Need-loop-again Inv-loop μ-loop
-loop-again c =
-    (omega arith,
-    ap (λ (b : Bool). b && leb (getD (c .before .before .before .args .accepting .now) (c .before .before .loop .t) 0) 1) (c .before .before .loop .inv .1)
-    ∙ sym (all-more (c .before .before .loop .t) _))
+loop-again c = (
+  omega arith,
+  ap (λ (b : Bool). b && leb (getD (c .before .before .before .args .accepting .now) (c .before .before .loop .t) 0) 1) (c .before .before .loop .inv .1)
+      ∙ sym (all-more (c .before .before .loop .t) _),
+)
 
 -- src/checks.rt:10:1
 returns : tie.Need-returns Inv-loop μ-loop
