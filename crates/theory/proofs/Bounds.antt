@@ -11,10 +11,10 @@ use mathlib.Core.Logic.{⊎-elim}
 use mathlib.Core.List.{List, [], _∷_, map, flatMap, List·Memᴰ, List·Memᴰ·head, List·Memᴰ·tail, List·Memᴰ·cases-cons, List·Memᴰ·not-nil, Memᴰ·of-map}
 use lib.ListN.{length, length-append, length-map}
 use Rattle.theory.specs.Expression.{Expression, same, ε, letters, entries, parts}
-use Rattle.theory.specs.Distinct.{place}
+use Rattle.theory.specs.Distinct.{place, NoRepeats, Within}
 use Rattle.theory.specs.Derivative.{derivative}
 use Rattle.theory.specs.Automaton.{ascending, alphabet, states, expressions, arc, leaving, leaving-all, arcs}
-use Rattle.theory.proofs.Distinct.{NoRepeats, Within, distinct-of, distinct-no-repeats, no-longer}
+use Rattle.theory.proofs.Distinct.{distinct-of, distinct-no-repeats, no-longer}
 use Rattle.theory.proofs.Derivative.{derivative-no-repeats}
 use Rattle.theory.proofs.Members.{flatMap-of, length-flatMap-among}
 use Rattle.theory.proofs.Support.{support, stays, support-stays, support-bound}

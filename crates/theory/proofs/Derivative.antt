@@ -5,9 +5,9 @@ use mathlib.Core.Bool.{Bool, true, false, false≢true, cond}
 use mathlib.Core.List.{List, [], _∷_, _++_, map, append-nil}
 use lib.Dec.{eqb}
 use Rattle.theory.specs.Expression.{Expression, same, Sign, ∅, ε, letter, binary, star, union, concatenation, shuffle}
-use Rattle.theory.specs.Distinct.{distinct, without}
+use Rattle.theory.specs.Distinct.{distinct, without, NoRepeats, Within}
 use Rattle.theory.specs.Derivative.{empty-word, literal-ε, joined, derivative}
-use Rattle.theory.proofs.Distinct.{NoRepeats, Within, distinct-of, distinct-no-repeats, distinct-same}
+use Rattle.theory.proofs.Distinct.{distinct-of, distinct-no-repeats, distinct-same}
 use Rattle.theory.proofs.Members.{map-same}
 
 -- ---- The list by a letter, before its repeats are taken out

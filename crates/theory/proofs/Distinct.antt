@@ -7,16 +7,7 @@ use mathlib.Core.Path.{_≡_, refl, sym, ap, _∙_, subst}
 use mathlib.Core.Logic.{_⊎_, inl, inr, ⊎-elim}
 use mathlib.Core.List.{List, [], _∷_, _++_, map, List·Memᴰ, List·Memᴰ·head, List·Memᴰ·tail, List·Memᴰ·cases-cons, List·Memᴰ·not-nil, Memᴰ·cast, append-nil}
 use lib.ListN.{length, getD}
-use Rattle.theory.specs.Distinct.{unless, here-or, without, distinct, place}
-
--- No member stands twice.
-abbrev pub NoRepeats : {A : Type 0} → List A → Type 0
-NoRepeats [] = Unit {0}
-NoRepeats (x ∷ xs) = (List·Memᴰ x xs → ⊥) × NoRepeats xs
-
--- Each member of xs is one of ys.
-abbrev pub Within : {A : Type 0} → List A → List A → Type 0
-Within {A} xs ys = (z : A) → List·Memᴰ z xs → List·Memᴰ z ys
+use Rattle.theory.specs.Distinct.{unless, here-or, without, distinct, place, NoRepeats, Within}
 
 pub getD-member : {A : Type 0} (ys : List A) (i : ℕ) (d : A) → i < length ys → List·Memᴰ (getD ys i d) ys
 getD-member [] i d h = absurd (not-suc-le-zero h)

@@ -7,7 +7,8 @@ use mathlib.Core.Path.{_≡_, refl, sym, ap, ap₂, _∙_, subst}
 use mathlib.Core.Logic.{_⊎_, inl, inr, ⊎-elim}
 use mathlib.Core.List.{List, [], _∷_, _++_, map, flatMap, List·Memᴰ, List·Memᴰ·head, List·Memᴰ·tail, List·Memᴰ·cases-cons, List·Memᴰ·append-cases, List·Memᴰ·not-nil, Memᴰ·cast, Memᴰ·map, Memᴰ·of-map, Memᴰ·append-left, Memᴰ·append-right, append-assoc}
 use lib.ListN.{length, length-append, length-map}
-use Rattle.theory.proofs.Distinct.{NoRepeats, Within, no-longer}
+use Rattle.theory.specs.Distinct.{NoRepeats, Within}
+use Rattle.theory.proofs.Distinct.{no-longer}
 
 -- What follows in the first list from the first half, and in the second from the second, follows in both together.
 pub either-half : {A B : Type 0} {a : A} {z : B} (us : List B) {vs : List B} (xs ys : List A) → (List·Memᴰ z us → List·Memᴰ a xs) → (List·Memᴰ z vs → List·Memᴰ a ys)

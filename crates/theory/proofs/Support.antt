@@ -13,7 +13,7 @@ use lib.Dec.{eqb}
 use lib.Pow.{pow-add}
 use Rattle.theory.specs.Expression.{Expression, Sign, ∅, ε, letter, binary, star, union, concatenation, shuffle, letters}
 use Rattle.theory.specs.Derivative.{empty-word, joined, derivative}
-use Rattle.theory.proofs.Distinct.{Within}
+use Rattle.theory.specs.Distinct.{Within}
 use Rattle.theory.proofs.Derivative.{gathered, derivative-of, Joins, derivative-joined}
 use Rattle.theory.proofs.Members.{within-append, within-both, within-map, pairs, to-pairs, pairs-of, length-pairs}
 

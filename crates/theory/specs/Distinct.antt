@@ -1,7 +1,7 @@
 -- Lists without repeats. 01: "a list without repeats, a repeated member kept at its first place".
 use Prim.Native.Nat.{ℕ, suc}
 use mathlib.Core.Path.{_≡_}
-use mathlib.Core.List.{List, [], _∷_}
+use mathlib.Core.List.{List, [], _∷_, List·Memᴰ}
 
 -- y before ys, unless the question is answered yes
 abbrev pub unless : {A P : Type 0} → Dec P → A → List A → List A
@@ -29,3 +29,12 @@ module _ {A : Type 0} (same : Discrete A) where
   unfoldable pub place : A → List A → ℕ
   place x [] = 0
   place x (y ∷ ys) = here-or (same x y) (place x ys)
+
+-- No member stands twice.
+abbrev pub NoRepeats : {A : Type 0} → List A → Type 0
+NoRepeats [] = Unit {0}
+NoRepeats (x ∷ xs) = (List·Memᴰ x xs → ⊥) × NoRepeats xs
+
+-- Each member of xs is one of ys.
+abbrev pub Within : {A : Type 0} → List A → List A → Type 0
+Within {A} xs ys = (z : A) → List·Memᴰ z xs → List·Memᴰ z ys

@@ -8,7 +8,7 @@ use lib.Dec.{eqb}
 use borrow.Author.Tests.{eqb-true}
 use Rattle.theory.specs.Expression.{Expression, Sign, ∅, ε, letter, binary, star, union, concatenation, shuffle, letters}
 use Rattle.theory.specs.Derivative.{empty-word, joined, derivative}
-use Rattle.theory.proofs.Distinct.{Within}
+use Rattle.theory.specs.Distinct.{Within}
 use Rattle.theory.proofs.Derivative.{gathered, derivative-of, joined-cases}
 use Rattle.theory.proofs.Members.{either-half, within-append, within-both}
 use Rattle.theory.proofs.Support.{followed-by, support}

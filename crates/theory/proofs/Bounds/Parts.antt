@@ -10,7 +10,7 @@ use lib.ListN.{length, length-append}
 use lib.Pow.{pow-mono}
 use Rattle.theory.specs.Expression.{Expression, Sign, ∅, ε, letter, binary, star, concatenation, letters, parts, entries}
 use Rattle.theory.specs.Derivative.{joined}
-use Rattle.theory.proofs.Distinct.{Within}
+use Rattle.theory.specs.Distinct.{Within}
 use Rattle.theory.proofs.Derivative.{joined-cases}
 use Rattle.theory.proofs.Members.{length-flatMap, to-flatMap}
 use Rattle.theory.proofs.Support.{support, support-bound}
