@@ -8,7 +8,7 @@ use mathlib.Core.List.{List, _∷_, List·Memᴰ}
 use lib.ListN.{length}
 use Rattle.theory.specs.Expression.{Expression, ε, parts}
 use Rattle.theory.specs.Distinct.{NoRepeats, Within}
-use Rattle.theory.specs.Table.{Table, Row, row, trees, row-tree, entry-fault}
+use Rattle.theory.specs.Table.{Table, row, entry, Sound, trees, tree-at}
 use Rattle.derive.specs.declared.rows.Interned.{Interned}
 use Rattle.derive.specs.declared.rows.Interned.the-variants.{At, Full}
 
@@ -17,20 +17,15 @@ abbrev pub Tells : Bool → Type 0 → Type 0
 Tells true P = P
 Tells false P = P → ⊥
 
--- The tree of row i.
-unfoldable pub tree-at : Table → ℕ → Expression
-unfolding row-tree trees
-tree-at t i = row-tree (row t i) (trees t i)
-
 pub record Rows (t : Table) (n : ℕ) : Type 0 where
   pub left-length : length (t .left) ≡ length (t .kind)
   pub right-length : length (t .right) ≡ length (t .kind)
   pub within : n ≤ length (t .kind)
-  pub faultless : (i : ℕ) → i < n → entry-fault 1 i (row t i) ≡ 0
+  pub sound : (i : ℕ) → i < n → Sound i (row t i)
   pub once : NoRepeats (trees t n)
   pub some : 0 < n
   pub literal : tree-at t 0 ≡ ε
-  pub blank : (i : ℕ) → n ≤ i → row t i ≡ record { kind = 0; left = 0; right = 0 }
+  pub blank : (i : ℕ) → n ≤ i → row t i ≡ entry 0 0 0
 
 -- Rows may have come behind those that were there.
 pub record Grown (t : Table) (n : ℕ) (t′ : Table) (n′ : ℕ) : Type 0 where

@@ -6,12 +6,11 @@ use mathlib.Core.List.{List, [], map}
 use lib.Dec.{eqb}
 use Rattle.theory.specs.Expression.{Expression, Sign, concatenation, shuffle}
 use Rattle.theory.specs.Derivative.{joined, derivative, empty-word}
-use Rattle.theory.specs.Table.{Table, row}
+use Rattle.theory.specs.Table.{Table, row, tree-at}
 use Rattle.derive.specs.declared.sides.Side.{Side}
 use Rattle.derive.specs.declared.sides.Side.the-variants.{Nothing, Of}
 use Rattle.derive.specs.declared.sides.Lowered.{Lowered}
 use Rattle.derive.specs.declared.sides.Lowered.the-variants.{Member, Outside}
-use Rattle.derive.specs.Rows.{tree-at}
 
 -- A side joins by concatenation (kind 4) or by shuffle (kind 5).
 abbrev pub side-sign : ℕ → Sign

@@ -4,12 +4,12 @@ use mathlib.Core.Path.{_≡_}
 use mathlib.Core.Option.{Option, none, some}
 use mathlib.Core.List.{List, [], _∷_, List·Memᴰ}
 use Rattle.theory.specs.Expression.{Expression, same}
-use Rattle.theory.specs.Table.{Table, trees}
+use Rattle.theory.specs.Table.{Table, trees, tree-at}
 use Rattle.derive.specs.declared.walk.Place.{Place}
 use Rattle.derive.specs.declared.walk.Place.the-variants.{Start, Behind}
 use Rattle.derive.specs.declared.walk.Stepped.{Stepped}
 use Rattle.derive.specs.declared.walk.Stepped.the-variants.{Found, End, NoRoom}
-use Rattle.derive.specs.Rows.{tree-at, Rows, Grown, Needed, Short}
+use Rattle.derive.specs.Rows.{Rows, Grown, Needed, Short}
 
 -- xs where the question is answered yes, else ys
 abbrev pub if-yes : {A P : Type 0} → Dec P → A → A → A

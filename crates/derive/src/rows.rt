@@ -4,8 +4,8 @@ ghost use mathlib.Core.Path.{_≡_};
 ghost use Prim.Native.Nat.{_+_, _≤_, _<_, max};
 ghost use lib.ListN.{length};
 ghost use Rattle.theory.specs.Derivative.{empty-word};
-ghost use Rattle.theory.specs.Table.{table, row, node, meaning, trees, entry-fault, table-refusal};
-ghost use Rattle.derive.specs.Rows.{tree-at, Rows, Interns, Takes};
+ghost use Rattle.theory.specs.Table.{table, tree-at, row, node, meaning, trees, entry-fault, table-refusal};
+ghost use Rattle.derive.specs.Rows.{Rows, Interns, Takes};
 
 // A row with the number of rows that are used now, or no room for it.
 pub enum Interned {

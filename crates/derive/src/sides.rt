@@ -4,7 +4,7 @@ ghost use mathlib.Core.Path.{_≡_};
 ghost use Prim.Native.Nat.{_≤_, _<_};
 ghost use lib.ListN.{length};
 ghost use Rattle.theory.specs.Table.{table};
-ghost use Rattle.derive.specs.Rows.{tree-at, Rows, Interns};
+ghost use Rattle.derive.specs.Rows.{Rows, Interns};
 ghost use Rattle.derive.specs.Sides.{left-side, right-side, lowered, side-sign, beside};
 
 // The members of `child`, each joined with `other` by a sign of kind 4 or 5; `first`: the member stands first.

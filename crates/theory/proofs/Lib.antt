@@ -6,6 +6,8 @@ pub mod Derivative
 pub mod Support
 pub mod States
 pub mod Bounds
+pub mod Trees
 pub mod Grammar
 pub mod Rows
+pub mod Sound
 pub mod Examples

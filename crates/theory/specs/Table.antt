@@ -1,5 +1,6 @@
 -- 01, "The expression table": what its rows say, the tree of each row, and refusals 1 to 8 with their places.
-use Prim.Native.Nat.{ℕ, zero, suc, pred}
+use Prim.Native.Nat.{ℕ, zero, suc, pred, _≤_, _<_}
+use mathlib.Core.Path.{_≡_}
 use mathlib.Core.Bool.{Bool, true, false, cond, not, _&&_, _||_}
 use mathlib.Core.List.{List, [], _∷_, _++_, map}
 use lib.ListN.{length, getD}
@@ -51,6 +52,17 @@ kind-of-sign union = 3
 kind-of-sign concatenation = 4
 kind-of-sign shuffle = 5
 
+abbrev pub entry : ℕ → ℕ → ℕ → Row
+entry k l r = record { kind = k; left = l; right = r }
+
+-- 01's table of kinds as what a row may be; "A child's number is smaller than its parent's", here i.
+pub data Sound (i : ℕ) (w : Row) : Type 0 where
+  of-∅ : w ≡ entry 0 0 0 → Sound i w
+  of-ε : w ≡ entry 1 0 0 → Sound i w
+  of-letter : (a : ℕ) → 1 ≤ a → a ≤ 255 → w ≡ entry 2 a 0 → Sound i w
+  of-sign : (s : Sign) (l r : ℕ) → l < i → r < i → w ≡ entry (kind-of-sign s) l r → Sound i w
+  of-star : (l : ℕ) → l < i → w ≡ entry 6 l 0 → Sound i w
+
 -- The tree of a row over the trees of the rows before it.
 unfoldable pub node : Meaning → ℕ → ℕ → List Expression → Expression
 node ∅-kind l r ts = ∅
@@ -69,6 +81,11 @@ unfoldable pub trees : Table → ℕ → List Expression
 unfolding row-tree
 trees t zero = []
 trees t (suc n) = let ts = trees t n in ts ++ (row-tree (row t n) ts ∷ [])
+
+-- The tree of row i.
+unfoldable pub tree-at : Table → ℕ → Expression
+unfolding row-tree trees
+tree-at t i = row-tree (row t i) (trees t i)
 
 -- 01: "The table is the whole of the columns lent".
 abbrev pub size : Table → ℕ
