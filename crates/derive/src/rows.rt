@@ -1,11 +1,11 @@
 // The rows of the expression columns: each tree once, each child before its parent, row 0 the literal empty word.
 
 ghost use mathlib.Core.Path.{_≡_};
-ghost use Prim.Native.Nat.{_+_, _≤_, _<_, max};
+ghost use Prim.Native.Nat.{ℕ, _≤_, _<_};
 ghost use lib.ListN.{length};
 ghost use Rattle.theory.specs.Derivative.{empty-word};
-ghost use Rattle.theory.specs.Table.{table, tree-at, row, node, meaning, trees, entry-fault, table-refusal};
-ghost use Rattle.derive.specs.Rows.{Rows, Interns, Takes};
+ghost use Rattle.theory.specs.Table.{table, tree-at, entry, Sound, trees, row-tree, size, table-refusal};
+ghost use Rattle.derive.specs.Rows.{Rows, SoundTo, FirstRow, Interns, Takes};
 
 // A row with the number of rows that are used now, or no room for it.
 pub enum Interned {
@@ -14,10 +14,14 @@ pub enum Interned {
 }
 
 // The first row from `start` on that is (k, l, r), or `used` where there is none.
-fn find(kind: &[u8], left: &[u16], right: &[u16], used: usize, start: usize, k: u8, l: u16, r: u16) -> usize {
+fn find(kind: &[u8], left: &[u16], right: &[u16], used: usize, start: usize, k: u8, l: u16, r: u16) -> usize
+    requires { ⌜ (used ≤ length (now kind)) × (used ≤ length (now left)) × (used ≤ length (now right)) ⌝ }
+    ensures { λ i. ⌜ FirstRow (table (now (kind .entry)) (now (left .entry)) (now (right .entry))) used start (entry k l r) i ⌝ }
+{
     let mut i = start;
     while i < used {
-        if kind[i] == k && left[i] == l && right[i] == r {
+        let w = columns::row_at(kind, left, right, i);
+        if (w.kind == k) & (w.left == l) & (w.right == r) {
             return i;
         }
         i += 1;
@@ -26,7 +30,9 @@ fn find(kind: &[u8], left: &[u16], right: &[u16], used: usize, start: usize, k: 
 }
 
 // No row before a child can be its parent's.
-fn search_start(k: u8, l: u16, r: u16) -> usize {
+fn search_start(k: u8, l: u16, r: u16) -> usize
+    ensures { λ start. ⌜ ((i : ℕ) → Sound i (entry k l r) → start ≤ i) ⌝ }
+{
     if k < 3 {
         return 0;
     }
@@ -48,11 +54,11 @@ pub fn intern(
 ) -> Interned
     requires { ⌜ Rows (table (now kind) (now left) (now right)) used ⌝ }
     requires { ⌜ (used ≤ room) × (room ≤ length (now kind)) ⌝ }
-    requires { ⌜ entry-fault 1 used (record { kind = k; left = l; right = r }) ≡ 0 ⌝ }
+    requires { ⌜ Sound used (entry k l r) ⌝ }
     ensures {
         λ i.
         ⌜ Interns (table (now (kind .entry)) (now (left .entry)) (now (right .entry))) used room
-          (node (meaning k) l r (trees (table (now (kind .entry)) (now (left .entry)) (now (right .entry))) used)) i
+          (row-tree (entry k l r) (trees (table (now (kind .entry)) (now (left .entry)) (now (right .entry))) used)) i
           (table (now (kind .exit)) (now (left .exit)) (now (right .exit))) ⌝
     }
 {
@@ -73,7 +79,10 @@ pub fn intern(
 }
 
 // 01: "the answer for the empty word follows from an entry's children down to the leaves".
-pub fn empty_word(kind: &[u8], left: &[u16], right: &[u16], row: usize) -> bool {
+pub fn empty_word(kind: &[u8], left: &[u16], right: &[u16], row: usize) -> bool
+    requires { ⌜ SoundTo (table (now kind) (now left) (now right)) row ⌝ }
+    ensures { λ r. ⌜ r ≡ empty-word (tree-at (table (now (kind .entry)) (now (left .entry)) (now (right .entry))) row) ⌝ }
+{
     let w = columns::row_at(kind, left, right, row);
     let k = w.kind;
     if k == 1 || k == 6 {
@@ -99,14 +108,24 @@ pub fn take_over(
     gkind: &[u8],
     gleft: &[u16],
     gright: &[u16],
-    entry: usize,
+    e: usize,
     kind: &mut [u8],
     left: &mut [u16],
     right: &mut [u16],
     used: usize,
     room: usize,
-) -> Interned {
-    let w = columns::row_at(gkind, gleft, gright, entry);
+) -> Interned
+    requires { ⌜ SoundTo (table (now gkind) (now gleft) (now gright)) e ⌝ }
+    requires { ⌜ Rows (table (now kind) (now left) (now right)) used ⌝ }
+    requires { ⌜ (used ≤ room) × (room ≤ length (now kind)) × (room ≤ 65535) ⌝ }
+    ensures {
+        λ i.
+        ⌜ Takes (table (now (kind .entry)) (now (left .entry)) (now (right .entry))) used room
+          (tree-at (table (now (gkind .entry)) (now (gleft .entry)) (now (gright .entry))) e) i
+          (table (now (kind .exit)) (now (left .exit)) (now (right .exit))) ⌝
+    }
+{
+    let w = columns::row_at(gkind, gleft, gright, e);
     let k = w.kind;
     let l = w.left;
     let r = w.right;

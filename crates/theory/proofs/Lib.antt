@@ -10,4 +10,5 @@ pub mod Trees
 pub mod Grammar
 pub mod Rows
 pub mod Sound
+pub mod KindOf
 pub mod Examples

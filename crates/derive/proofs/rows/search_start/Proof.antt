@@ -1,0 +1,20 @@
+use borrow.Author.Needs.{needs}
+use Rattle.derive.proofs.rows.search_start.Statement.{statement}
+use Rattle.derive.proofs.rows.search_start.Tie as tie
+use Rattle.derive.proofs.rows.search_start.Reads as reads
+use Rattle.derive.proofs.rows.search_start.Lts as lts
+
+-- src/rows.rt:37:9
+returns : tie.Need-returns
+returns c = search needs
+
+-- src/rows.rt:40:9
+returns-2 : tie.Need-returns-2
+returns-2 c = search needs
+
+-- src/rows.rt:33:1
+returns-3 : tie.Need-returns-3
+returns-3 c = search needs
+
+pub search-start-spec : {M : Type 1} → statement M
+search-start-spec = tie.close (tie.spec returns returns-2 returns-3)
