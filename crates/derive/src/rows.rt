@@ -85,7 +85,10 @@ pub fn empty_word(kind: &[u8], left: &[u16], right: &[u16], row: usize) -> bool
 {
     let w = columns::row_at(kind, left, right, row);
     let k = w.kind;
-    if k == 1 || k == 6 {
+    if k == 1 {
+        return true;
+    }
+    if k == 6 {
         return true;
     }
     if k < 3 {
@@ -94,13 +97,8 @@ pub fn empty_word(kind: &[u8], left: &[u16], right: &[u16], row: usize) -> bool
     let l = w.left as usize;
     let r = w.right as usize;
     let a = empty_word(kind, left, right, l);
-    if k == 3 && a {
-        return true;
-    }
-    if k != 3 && !a {
-        return false;
-    }
-    empty_word(kind, left, right, r)
+    let b = empty_word(kind, left, right, r);
+    if k == 3 { a | b } else { a & b }
 }
 
 // The tree of an entry of the given table, with all its parts, as a row.

@@ -47,34 +47,7 @@ empty-word-returns-2 : (t : ℕ) → empty-word-lts.Need-returns-2 (
 ) (empty-word-at t) empty-word.Post
 empty-word-returns-2 t c = search needs
 
--- src/rows.rt:94:13
-empty-word-cast-l : (t : ℕ) → empty-word-lts.Need-cast-l (
-  row-at-reads.Asked,
-  row-at-reads.Learnt,
-  empty-word-below t,
-  empty-word.Post,
-) (empty-word-at t) empty-word.Post
-empty-word-cast-l t c = search needs
-
--- src/rows.rt:95:13
-empty-word-cast-r : (t : ℕ) → empty-word-lts.Need-cast-r (
-  row-at-reads.Asked,
-  row-at-reads.Learnt,
-  empty-word-below t,
-  empty-word.Post,
-) (empty-word-at t) empty-word.Post
-empty-word-cast-r t c = search needs
-
--- src/rows.rt:96:9
-empty-word-empty-word-requires : (t : ℕ) → empty-word-lts.Need-empty-word-requires (
-  row-at-reads.Asked,
-  row-at-reads.Learnt,
-  empty-word-below t,
-  empty-word.Post,
-) (empty-word-at t) empty-word.Post
-empty-word-empty-word-requires t c κs = search needs
-
--- src/rows.rt:98:9
+-- src/rows.rt:95:9
 empty-word-returns-3 : (t : ℕ) → empty-word-lts.Need-returns-3 (
   row-at-reads.Asked,
   row-at-reads.Learnt,
@@ -83,16 +56,34 @@ empty-word-returns-3 : (t : ℕ) → empty-word-lts.Need-returns-3 (
 ) (empty-word-at t) empty-word.Post
 empty-word-returns-3 t c = search needs
 
--- src/rows.rt:101:9
-empty-word-returns-4 : (t : ℕ) → empty-word-lts.Need-returns-4 (
+-- src/rows.rt:97:13
+empty-word-cast-l : (t : ℕ) → empty-word-lts.Need-cast-l (
   row-at-reads.Asked,
   row-at-reads.Learnt,
   empty-word-below t,
   empty-word.Post,
 ) (empty-word-at t) empty-word.Post
-empty-word-returns-4 t c = search needs
+empty-word-cast-l t c = search needs
 
--- src/rows.rt:103:5
+-- src/rows.rt:98:13
+empty-word-cast-r : (t : ℕ) → empty-word-lts.Need-cast-r (
+  row-at-reads.Asked,
+  row-at-reads.Learnt,
+  empty-word-below t,
+  empty-word.Post,
+) (empty-word-at t) empty-word.Post
+empty-word-cast-r t c = search needs
+
+-- src/rows.rt:99:9
+empty-word-empty-word-requires : (t : ℕ) → empty-word-lts.Need-empty-word-requires (
+  row-at-reads.Asked,
+  row-at-reads.Learnt,
+  empty-word-below t,
+  empty-word.Post,
+) (empty-word-at t) empty-word.Post
+empty-word-empty-word-requires t c κs = search needs
+
+-- src/rows.rt:100:9
 empty-word-empty-word-requires-2 : (t : ℕ) → empty-word-lts.Need-empty-word-requires-2 (
   row-at-reads.Asked,
   row-at-reads.Learnt,
@@ -100,6 +91,15 @@ empty-word-empty-word-requires-2 : (t : ℕ) → empty-word-lts.Need-empty-word-
   empty-word.Post,
 ) (empty-word-at t) empty-word.Post
 empty-word-empty-word-requires-2 t c κs = search needs
+
+-- src/rows.rt:82:1
+empty-word-returns-4 : (t : ℕ) → empty-word-lts.Need-returns-4 (
+  row-at-reads.Asked,
+  row-at-reads.Learnt,
+  empty-word-below t,
+  empty-word.Post,
+) (empty-word-at t) empty-word.Post
+empty-word-returns-4 t c = search needs
 
 -- src/rows.rt:82:1
 empty-word-returns-5 : (t : ℕ) → empty-word-lts.Need-returns-5 (
@@ -122,10 +122,10 @@ pub +empty-word-spec : {M : Type 1} → statement M
     (empty-word-row-at-requires t)
     (empty-word-returns t)
     (empty-word-returns-2 t)
+    (empty-word-returns-3 t)
     (empty-word-cast-l t)
     (empty-word-cast-r t)
     (empty-word-empty-word-requires t)
-    (empty-word-returns-3 t)
-    (empty-word-returns-4 t)
     (empty-word-empty-word-requires-2 t)
+    (empty-word-returns-4 t)
     (empty-word-returns-5 t)

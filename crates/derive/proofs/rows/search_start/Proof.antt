@@ -1,4 +1,7 @@
 use borrow.Author.Needs.{needs}
+use native.Mathlib.Omega.{arith}
+use Rattle.theory.specs.Table.{entry}
+use Rattle.theory.proofs.KindOf.{sound-left, sound-right-zero, sound-right}
 use Rattle.derive.proofs.rows.search_start.Statement.{statement}
 use Rattle.derive.proofs.rows.search_start.Tie as tie
 use Rattle.derive.proofs.rows.search_start.Reads as reads
@@ -10,11 +13,11 @@ returns c = search needs
 
 -- src/rows.rt:40:9
 returns-2 : tie.Need-returns-2
-returns-2 c = search needs
+returns-2 c = λ i s. ?
 
 -- src/rows.rt:33:1
 returns-3 : tie.Need-returns-3
-returns-3 c = search needs
+returns-3 c = λ i s. omega (arith, sound-left s (c .before .if1 .left))
 
 pub search-start-spec : {M : Type 1} → statement M
 search-start-spec = tie.close (tie.spec returns returns-2 returns-3)
