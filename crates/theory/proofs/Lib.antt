@@ -1,4 +1,7 @@
 pub mod Below
+pub mod ByKind
 pub mod Distinct
 pub mod Examples
+pub mod FirstFault
 pub mod Language
+pub mod Times
