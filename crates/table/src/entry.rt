@@ -1,7 +1,6 @@
 // What can be wrong with one entry: refusals 4 to 7.
 
 use columns::Row;
-
 ghost use mathlib.Core.Path.{_≡_};
 ghost use mathlib.Core.Bool.{Bool};
 ghost use Rattle.theory.specs.Table.{meaning, fields-fit, row-children, all-below, entry-fault};

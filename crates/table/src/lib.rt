@@ -37,13 +37,22 @@ pub fn check(kind: &[u8], left: &[u16], right: &[u16]) -> Checked
     ensures { λ r. ⌜ refusal-of r ≡ table-refusal (table (now (kind .entry)) (now (left .entry)) (now (right .entry))) ⌝ }
 {
     if left.len() != kind.len() || right.len() != kind.len() {
-        return Checked::Refused { number: 1, place: 0 };
+        return Checked::Refused {
+            number: 1,
+            place: 0,
+        };
     }
     if kind.len() == 0 {
-        return Checked::Refused { number: 2, place: 0 };
+        return Checked::Refused {
+            number: 2,
+            place: 0,
+        };
     }
     if 512 < kind.len() {
-        return Checked::Refused { number: 3, place: 0 };
+        return Checked::Refused {
+            number: 3,
+            place: 0,
+        };
     }
     let scanned = entries_checked(kind, left, right);
     match scanned {

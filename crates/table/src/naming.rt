@@ -1,10 +1,9 @@
 // How often an entry is named as a child: refusal 8.
 
 use columns::Row;
-
 ghost use mathlib.Core.Path.{_≡_};
 ghost use mathlib.Core.List.{[], _∷_};
-ghost use Prim.Native.Nat.{_<_, pred};
+ghost use Prim.Native.Nat.{pred};
 ghost use lib.ListN.{length};
 ghost use Rattle.theory.specs.Table.{table, row-children, times, named, naming-fault, first-fault};
 ghost use Rattle.columns.specs.Row.{as-row};
@@ -42,13 +41,13 @@ fn times_named(kind: &[u8], left: &[u16], right: &[u16], i: usize) -> usize
 
 // 01: "an entry other than the last not named exactly once; the smallest such".
 pub fn checked(kind: &[u8], left: &[u16], right: &[u16]) -> super::Checked
-    requires { ⌜ (length (now left) ≡ length (now kind)) × (length (now right) ≡ length (now kind)) × (0 < length (now kind)) ⌝ }
+    requires { ⌜ (length (now left) ≡ length (now kind)) × (length (now right) ≡ length (now kind)) ⌝ }
     ensures { λ r.
         ⌜ Scanned r (first-fault (naming-fault (table (now (kind .entry)) (now (left .entry)) (now (right .entry))))
         0 (pred (length (now (kind .entry))))) ⌝ }
 {
     let mut i = 0;
-    while i < kind.len() - 1 {
+    while i + 1 < kind.len() {
         if times_named(kind, left, right, i) != 1 {
             return super::Checked::Refused {
                 number: 8,

@@ -4,4 +4,5 @@ pub mod Distinct
 pub mod Examples
 pub mod FirstFault
 pub mod Language
+pub mod TableRefusal
 pub mod Times

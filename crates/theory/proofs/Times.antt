@@ -3,12 +3,14 @@ use Prim.Native.Nat.{ℕ, zero, suc, _+_, _*_, _≤_, zero-le, suc-le-suc}
 use native.Mathlib.Nat.{zero-add, le-step, le-trans}
 use native.Mathlib.Numerals.{add-one}
 use native.Mathlib.Omega.{arith}
-use mathlib.Core.Path.{_≡_, sym}
+use mathlib.Core.Path.{_≡_, refl, sym}
 use mathlib.Core.Bool.{Bool, true, false, cond}
 use mathlib.Core.List.{List, [], _∷_, _++_}
 use lib.ListN.{length}
 use lib.Dec.{eqb}
-use Rattle.theory.specs.Table.{Table, Row, row, Meaning, ∅-kind, ε-kind, letter-kind, sign-kind, star-kind, unknown-kind, meaning, children, row-children, times, named}
+use borrow.Author.Tests.{eq-eqb, ne-eqb, eqb-true}
+use Rattle.theory.specs.Refusal.{not-named-once}
+use Rattle.theory.specs.Table.{Table, Row, row, size, Meaning, ∅-kind, ε-kind, letter-kind, sign-kind, star-kind, unknown-kind, meaning, children, row-children, times, named, naming-fault}
 
 -- ---- A list of children
 
@@ -55,3 +57,21 @@ pub named-bound : (t : Table) (i n : ℕ) → times i (named t n) ≤ n * 2
 unfolding named times
 named-bound t i zero = zero-le
 named-bound t i (suc n) = omega (arith, times-append i (named t n) (row-children (row t n)), times-row i (row t n), named-bound t i n)
+
+-- ---- Refusal 8 of one entry
+
+pub fault-none : (t : Table) (i : ℕ) → times i (named t (size t)) ≡ 1 → naming-fault t i ≡ 0
+unfolding naming-fault
+fault-none t i e = rw (eq-eqb (times i (named t (size t))) 1 e)
+
+pub fault-found : (t : Table) (i : ℕ) → (times i (named t (size t)) ≡ 1 → ⊥) → naming-fault t i ≡ not-named-once
+unfolding naming-fault
+fault-found t i n = rw (ne-eqb (times i (named t (size t))) 1 n)
+
+pub once-of : (t : Table) (i : ℕ) → naming-fault t i ≡ 0 → times i (named t (size t)) ≡ 1
+unfolding naming-fault
+once-of t i e = go (eqb (times i (named t (size t))) 1) refl e
+  where
+    go : (b : Bool) → eqb (times i (named t (size t))) 1 ≡ b → cond b 0 not-named-once ≡ 0 → times i (named t (size t)) ≡ 1
+    go true q z = eqb-true (times i (named t (size t))) 1 q
+    go false q z = absurd (omega arith)

@@ -1,5 +1,4 @@
 -- `table::entry::fault` meets its contract: the tests in 01's order. Assumes nothing.
-use mathlib.Core.Path.{_≡_, sym, ap, _∙_}
 use borrow.Author.Needs.{needs}
 use borrow.Author.Tests.{lt-ltb, le-ltb, eq-eqb, ne-eqb}
 use mathlib.Core.Logic.{⊎-elim}
@@ -32,9 +31,15 @@ unfolding entry-fault
 returns-4 c =
     let d = c .before .before in
     let f = d .before .before .before in
-    simp
-    (le-ltb _ _ (f .before .if1 .left), ← f .fields-fit .ensures, d .before .before .if2 .left, ← d .before .children-smaller .ensures, d .if3 .left,
-    eq-eqb _ _ (c .before .if4 .taken), c .if5 .taken)
+    simp (
+      le-ltb _ _ (f .before .if1 .left),
+      ← f .fields-fit .ensures,
+      d .before .before .if2 .left,
+      ← d .before .children-smaller .ensures,
+      d .if3 .left,
+      eq-eqb _ _ (c .before .if4 .taken),
+      c .if5 .taken,
+    )
 
 returns-5 : tie.Need-returns-5
 unfolding entry-fault
