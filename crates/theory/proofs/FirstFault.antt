@@ -51,13 +51,6 @@ module _ (fault : ℕ → ℕ) where
       let q = clear (eqb (fault i) 0) (first-fault fault (suc i) k) i refl (ap (λ (r : Refusal). r .number) (sym (first-step i k)) ∙ e) in
       (eqb-true (fault i) 0 q, rw (first-step, q))
 
-  pub none-success : (i k : ℕ) → (first-fault fault i k) .number ≡ 0 → first-fault fault i k ≡ success
-  unfolding first-fault
-  none-success i zero e = refl
-  none-success i (suc k) e =
-      let p = passed i k e in
-      p .1 ∙ none-success (suc i) k (ap (λ (r : Refusal). r .number) (sym (p .1)) ∙ e)
-
   pub none-at : (i k : ℕ) → (first-fault fault i k) .number ≡ 0 → (j : ℕ) → i ≤ j → j < i + k → fault j ≡ 0
   none-at i zero e j a b = absurd (omega arith)
   none-at i (suc k) e j a b =

@@ -4,5 +4,8 @@ pub mod Distinct
 pub mod Examples
 pub mod FirstFault
 pub mod Language
+pub mod Sum
 pub mod TableRefusal
 pub mod Times
+pub mod Trees
+pub mod WellFormed
