@@ -1,10 +1,12 @@
-// What can be wrong with one entry: refusals 4 to 7.
+// What can be wrong with an entry by itself: refusals 4 to 7.
 
 use columns::Row;
 ghost use mathlib.Core.Path.{_≡_};
 ghost use mathlib.Core.Bool.{Bool};
-ghost use Rattle.theory.specs.Table.{meaning, fields-fit, row-children, all-below, entry-fault};
+ghost use lib.ListN.{length};
+ghost use Rattle.theory.specs.Table.{table, row, meaning, fields-fit, row-children, all-below, entry-fault, first-fault};
 ghost use Rattle.columns.specs.Row.{as-row};
+ghost use Rattle.table.specs.Checked.{Scanned};
 
 // 01's table of kinds, where left and right hold no child.
 fn fields_fit(w: Row) -> bool
@@ -32,7 +34,7 @@ fn children_smaller(i: usize, w: Row) -> bool
 }
 
 // The number of the refusal of entry i of `entries`, or 0.
-pub fn fault(entries: usize, i: usize, w: Row) -> u8
+fn fault(entries: usize, i: usize, w: Row) -> u8
     ensures { λ r. ⌜ r ≡ entry-fault entries i (as-row w) ⌝ }
 {
     let kind = w.kind;
@@ -49,4 +51,23 @@ pub fn fault(entries: usize, i: usize, w: Row) -> u8
         return 7;
     }
     0
+}
+
+// 01: "entries from 0 upward, each checked for 4, 5, 6, 7".
+pub fn entries_checked(kind: &[u8], left: &[u16], right: &[u16]) -> super::Checked
+    requires { ⌜ (length (now left) ≡ length (now kind)) × (length (now right) ≡ length (now kind)) ⌝ }
+    ensures { λ r.
+        ⌜ Scanned r (first-fault
+        (λ i. entry-fault (length (now (kind .entry))) i (row (table (now (kind .entry)) (now (left .entry)) (now (right .entry))) i))
+        0 (length (now (kind .entry)))) ⌝ }
+{
+    let mut i = 0;
+    while i < kind.len() {
+        let number = fault(kind.len(), i, columns::row_at(kind, left, right, i));
+        if number != 0 {
+            return super::Checked::Refused { number, place: i };
+        }
+        i += 1;
+    }
+    super::Checked::Fine
 }

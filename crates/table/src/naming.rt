@@ -40,7 +40,7 @@ fn times_named(kind: &[u8], left: &[u16], right: &[u16], i: usize) -> usize
 }
 
 // 01: "an entry other than the last not named exactly once; the smallest such".
-pub fn checked(kind: &[u8], left: &[u16], right: &[u16]) -> super::Checked
+pub fn naming_checked(kind: &[u8], left: &[u16], right: &[u16]) -> super::Checked
     requires { ⌜ (length (now left) ≡ length (now kind)) × (length (now right) ≡ length (now kind)) ⌝ }
     ensures { λ r.
         ⌜ Scanned r (first-fault (naming-fault (table (now (kind .entry)) (now (left .entry)) (now (right .entry))))

@@ -17,7 +17,7 @@ use Rattle.theory.specs.Record.{count-below}
 use Rattle.theory.specs.Table.{Table, Row, row, size, tree, trees, row-tree, node, Meaning, ∅-kind, ε-kind, letter-kind, sign-kind, star-kind, unknown-kind, meaning, fields-fit, children, row-children, all-below, entry-fault, times, named, naming-fault, table-refusal}
 use Rattle.theory.proofs.FirstFault.{none-at}
 use Rattle.theory.proofs.Times.{once-of}
-use Rattle.theory.proofs.TableRefusal.{Even, refused-differ, refused-empty, refused-long, refused-later}
+use Rattle.theory.proofs.TableRefusal.{SameLengths, refused-differ, refused-empty, refused-long, refused-later}
 use Rattle.theory.proofs.Sum.{sum-below, sum-over, sum-cong, sum-add, sum-last, sum-ones, sum-count, over-append, over-cong, over-once}
 use Rattle.theory.proofs.Trees.{tree-of, trees-at, trees-each}
 
@@ -60,7 +60,7 @@ sound-of n i w e =
 
 -- A table that the check does not refuse.
 pub record WellFormed (t : Table) : Type 0 where
-  pub even : Even t
+  pub lengths : SameLengths t
   pub nonempty : 0 < size t
   pub short : size t ≤ 512
   pub sound : (i : ℕ) → i < size t → Sound (size t) i (row t i)
@@ -79,20 +79,20 @@ well-formed t e = first (ℕ-discrete (length (t .left)) (size t)) (ℕ-discrete
     not-with : {k p : ℕ} → table-refusal t ≡ refusal k p → k ≡ 0
     not-with q = sym (ap (λ (r : Refusal). r .number) q) ∙ e
 
-    third : Even t → (size t ≡ 0 → ⊥) → Dec (512 < size t) → WellFormed t
+    third : SameLengths t → (size t ≡ 0 → ⊥) → Dec (512 < size t) → WellFormed t
     third v n (yes l) = absurd (let z = not-with (refused-long t v n l) in omega arith)
     third v n (no m) =
         let l : size t ≤ 512 = omega arith in
         let z = both-clear _ _ (sym (ap (λ (r : Refusal). r .number) (refused-later t v n l)) ∙ e) in
         record {
-          even = v;
+          lengths = v;
           nonempty = omega arith;
           short = l;
           sound = λ i h. sound-of (size t) i (row t i) (none-at (λ j. entry-fault (size t) j (row t j)) 0 (size t) (z .0) i (omega arith) (omega arith));
           once = λ i h. once-of t i (none-at (naming-fault t) 0 (pred (size t)) (z .1) i (omega arith) (omega arith));
         }
 
-    second : Even t → Dec (size t ≡ 0) → WellFormed t
+    second : SameLengths t → Dec (size t ≡ 0) → WellFormed t
     second v (yes z) = absurd (let q = not-with (refused-empty t v z) in omega arith)
     second v (no n) = third v n (decLt 512 (size t))
 

@@ -34,9 +34,7 @@ row-is : (c : tie.After-times-in-row Inv-loop μ-loop)
     (row-children (row (table (now (c .before .before .before .before .before .before .before .args .kind))
     (now (c .before .before .before .before .before .before .before .args .left))
     (now (c .before .before .before .before .before .before .before .args .right))) (c .before .before .before .loop .j)))
-row-is c =
-    let i = c .before .before .before .before .before .before .before .args .i in
-    c .times-in-row .ensures ∙ ap (λ w. times i (row-children w)) (c .before .row-at .ensures)
+row-is c = c .times-in-row .ensures ∙ ap (times _) (ap row-children (c .before .row-at .ensures))
 
 add-times : tie.Need-add-times Inv-loop μ-loop
 add-times c =

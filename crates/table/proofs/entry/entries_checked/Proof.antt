@@ -1,4 +1,4 @@
--- `table::entries_checked` meets its contract. The invariant: the scan of all entries is the scan of those that are left. Assumes nothing.
+-- `table::entry::entries_checked` meets its contract. The invariant: the scan of all entries is the scan of those that are left. Assumes nothing.
 use Prim.Native.Nat.{ℕ, _-_}
 use mathlib.Core.Path.{_≡_, sym, ap, _∙_}
 use mathlib.Core.List.{List}
@@ -7,8 +7,8 @@ use denote.Ref.{now}
 use Rattle.theory.specs.Table.{table, row, entry-fault}
 use Rattle.table.proofs.Scanning.{Scanning, scan-begins, scan-over, scan-found, scan-ends}
 use borrow.Author.Needs.{needs}
-use Rattle.table.proofs.entries_checked.Statement.{statement}
-use Rattle.table.proofs.entries_checked.Tie as tie
+use Rattle.table.proofs.entry.entries_checked.Statement.{statement}
+use Rattle.table.proofs.entry.entries_checked.Tie as tie
 
 -- What is wrong with each entry.
 abbrev faults : List ℕ → List ℕ → List ℕ → ℕ → ℕ

@@ -1,4 +1,4 @@
--- `table::naming::checked` meets its contract. The invariant: the scan of all entries but the last is the scan of those that are left.
+-- `table::naming::naming_checked` meets its contract. The invariant: the scan of all entries but the last is the scan of those that are left.
 -- Assumes nothing.
 use Prim.Native.Nat.{_-_, pred}
 use native.Mathlib.Omega.{arith}
@@ -8,8 +8,8 @@ use Rattle.theory.specs.Table.{table, naming-fault}
 use Rattle.theory.proofs.Times.{fault-none, fault-found}
 use Rattle.table.proofs.Scanning.{Scanning, scan-begins, scan-over, scan-found, scan-ends}
 use borrow.Author.Needs.{needs}
-use Rattle.table.proofs.naming.checked.Statement.{statement}
-use Rattle.table.proofs.naming.checked.Tie as tie
+use Rattle.table.proofs.naming.naming_checked.Statement.{statement}
+use Rattle.table.proofs.naming.naming_checked.Tie as tie
 
 abbrev Inv-loop : tie.InvT-loop
 Inv-loop kind left right i₀ i = Scanning (naming-fault (table kind left right)) (pred (length kind)) i
@@ -43,8 +43,8 @@ loop-again c = scan-over _ _ _ (c .before .before .before .loop .inv) (omega ari
 returns-2 : tie.Need-returns-2 Inv-loop μ-loop
 returns-2 c = scan-ends _ _ _ (c .before .loop .inv) (omega arith)
 
-pub checked-spec : {M : Type 1} → statement M
-checked-spec =
+pub naming-checked-spec : {M : Type 1} → statement M
+naming-checked-spec =
     tie.close
     (tie.spec
     Inv-loop
