@@ -51,7 +51,8 @@ grown-trans g h =
     record {
       rows = h .rows;
       more = le-trans (g .more) (h .more);
-      kept = λ i l. h .kept i (lt-of-lt-of-le l (g .more)) ∙ g .kept i l }
+      kept = λ i l. h .kept i (lt-of-lt-of-le l (g .more)) ∙ g .kept i l;
+    }
 
 pub grown-tree : {t t′ : Table} {n n′ i : ℕ} → Grown t n t′ n′ → i < n → tree-at t′ i ≡ tree-at t i
 grown-tree {t} {t′} {i = i} g l = tree-kept t t′ i (λ j m. g .kept j (omega arith))
@@ -65,9 +66,10 @@ grown-within {t} {t′} {n} {n′} g z m =
 
 no-repeats-more : (xs : List Expression) (y : Expression) → NoRepeats xs → (List·Memᴰ y xs → ⊥) → NoRepeats (xs ++ (y ∷ []))
 no-repeats-more [] y once new = (List·Memᴰ·not-nil, tt)
-no-repeats-more (x ∷ xs) y once new =
-    (λ m. ⊎-elim (once .0) (λ k. new (List·Memᴰ·head (sym (List·Memᴰ·eq-of-singleton k)))) (List·Memᴰ·append-cases xs m),
-     no-repeats-more xs y (once .1) (λ m. new (List·Memᴰ·tail m)))
+no-repeats-more (x ∷ xs) y once new = (
+  λ m. ⊎-elim (once .0) (λ k. new (List·Memᴰ·head (sym (List·Memᴰ·eq-of-singleton k)))) (List·Memᴰ·append-cases xs m),
+  no-repeats-more xs y (once .1) (λ m. new (List·Memᴰ·tail m)),
+)
 
 module _ (t : Table) (n k l r : ℕ) where
   -- t with (k, l, r) at row n
@@ -109,17 +111,19 @@ module _ (t : Table) (n k l r : ℕ) where
     one-more =
         record {
           rows =
-            record {
-              left-length = length-set (t .left) n l ∙ h .left-length ∙ sym (length-set (t .kind) n k);
-              right-length = length-set (t .right) n r ∙ h .right-length ∙ sym (length-set (t .kind) n k);
-              within = simp length-set (omega arith);
-              sound = sound-more;
-              once = subst NoRepeats (sym (ap (trees with-row) (add-one n) ∙ more-trees)) (no-repeats-more (trees t n) _ (h .once) new);
-              some = omega arith;
-              literal = tree-kept t with-row 0 (λ j m. below j (le-trans m (h .some))) ∙ h .literal;
-              blank = λ i m. row-away i (λ e. omega arith) ∙ h .blank i (omega arith) };
+              record {
+                left-length = length-set (t .left) n l ∙ h .left-length ∙ sym (length-set (t .kind) n k);
+                right-length = length-set (t .right) n r ∙ h .right-length ∙ sym (length-set (t .kind) n k);
+                within = simp length-set (omega arith);
+                sound = sound-more;
+                once = subst NoRepeats (sym (ap (trees with-row) (add-one n) ∙ more-trees)) (no-repeats-more (trees t n) _ (h .once) new);
+                some = omega arith;
+                literal = tree-kept t with-row 0 (λ j m. below j (le-trans m (h .some))) ∙ h .literal;
+                blank = λ i m. row-away i (λ e. omega arith) ∙ h .blank i (omega arith);
+              };
           more = omega arith;
-          kept = below }
+          kept = below;
+        }
 
     pub one-more-within : Within (trees with-row (n + 1)) (row-tree (entry k l r) (trees t n) ∷ trees t n)
     one-more-within z m =

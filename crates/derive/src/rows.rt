@@ -14,7 +14,16 @@ pub enum Interned {
 }
 
 // The first row from `start` on that is (k, l, r), or `used` where there is none.
-fn find(kind: &[u8], left: &[u16], right: &[u16], used: usize, start: usize, k: u8, l: u16, r: u16) -> usize
+fn find(
+    kind: &[u8],
+    left: &[u16],
+    right: &[u16],
+    used: usize,
+    start: usize,
+    k: u8,
+    l: u16,
+    r: u16,
+) -> usize
     requires { ⌜ (used ≤ length (now kind)) × (used ≤ length (now left)) × (used ≤ length (now right)) ⌝ }
     ensures { λ i. ⌜ FirstRow (table (now (kind .entry)) (now (left .entry)) (now (right .entry))) used start (entry k l r) i ⌝ }
 {
@@ -55,12 +64,10 @@ pub fn intern(
     requires { ⌜ Rows (table (now kind) (now left) (now right)) used ⌝ }
     requires { ⌜ (used ≤ room) × (room ≤ length (now kind)) ⌝ }
     requires { ⌜ Sound used (entry k l r) ⌝ }
-    ensures {
-        λ i.
+    ensures { λ i.
         ⌜ Interns (table (now (kind .entry)) (now (left .entry)) (now (right .entry))) used room
-          (row-tree (entry k l r) (trees (table (now (kind .entry)) (now (left .entry)) (now (right .entry))) used)) i
-          (table (now (kind .exit)) (now (left .exit)) (now (right .exit))) ⌝
-    }
+        (row-tree (entry k l r) (trees (table (now (kind .entry)) (now (left .entry)) (now (right .entry))) used)) i
+        (table (now (kind .exit)) (now (left .exit)) (now (right .exit))) ⌝ }
 {
     let row = find(kind, left, right, used, search_start(k, l, r), k, l, r);
     if row < used {
@@ -116,12 +123,10 @@ pub fn take_over(
     requires { ⌜ SoundTo (table (now gkind) (now gleft) (now gright)) e ⌝ }
     requires { ⌜ Rows (table (now kind) (now left) (now right)) used ⌝ }
     requires { ⌜ (used ≤ room) × (room ≤ length (now kind)) × (room ≤ 65535) ⌝ }
-    ensures {
-        λ i.
+    ensures { λ i.
         ⌜ Takes (table (now (kind .entry)) (now (left .entry)) (now (right .entry))) used room
-          (tree-at (table (now (gkind .entry)) (now (gleft .entry)) (now (gright .entry))) e) i
-          (table (now (kind .exit)) (now (left .exit)) (now (right .exit))) ⌝
-    }
+        (tree-at (table (now (gkind .entry)) (now (gleft .entry)) (now (gright .entry))) e) i
+        (table (now (kind .exit)) (now (left .exit)) (now (right .exit))) ⌝ }
 {
     let w = columns::row_at(gkind, gleft, gright, e);
     let k = w.kind;
@@ -130,17 +135,33 @@ pub fn take_over(
     if k < 3 {
         return intern(kind, left, right, used, room, k, l, r);
     }
-    let Interned::At { row: x, used: u } =
-        take_over(gkind, gleft, gright, l as usize, kind, left, right, used, room)
-    else {
+    let Interned::At { row: x, used: u } = take_over(
+        gkind,
+        gleft,
+        gright,
+        l as usize,
+        kind,
+        left,
+        right,
+        used,
+        room,
+    ) else {
         return Interned::Full;
     };
     if k == 6 {
         return intern(kind, left, right, u, room, k, x as u16, 0);
     }
-    let Interned::At { row: y, used: v } =
-        take_over(gkind, gleft, gright, r as usize, kind, left, right, u, room)
-    else {
+    let Interned::At { row: y, used: v } = take_over(
+        gkind,
+        gleft,
+        gright,
+        r as usize,
+        kind,
+        left,
+        right,
+        u,
+        room,
+    ) else {
         return Interned::Full;
     };
     intern(kind, left, right, v, room, k, x as u16, y as u16)

@@ -10,7 +10,12 @@ ghost use Rattle.derive.specs.Sides.{left-side, right-side, lowered, sid
 // The members of `child`, each joined with `other` by a sign of kind 4 or 5; `first`: the member stands first.
 pub enum Side {
     Nothing,
-    Of { child: usize, other: usize, kind: u8, first: bool },
+    Of {
+        child: usize,
+        other: usize,
+        kind: u8,
+        first: bool,
+    },
 }
 
 pub enum Lowered {
@@ -24,13 +29,28 @@ pub fn left_side(kind: &[u8], left: &[u16], right: &[u16], row: usize) -> Side {
     let child = w.left as usize;
     let other = w.right as usize;
     if k == 3 {
-        return Side::Of { child, other: 0, kind: 4, first: true };
+        return Side::Of {
+            child,
+            other: 0,
+            kind: 4,
+            first: true,
+        };
     }
     if k == 4 || k == 5 {
-        return Side::Of { child, other, kind: k, first: true };
+        return Side::Of {
+            child,
+            other,
+            kind: k,
+            first: true,
+        };
     }
     if k == 6 {
-        return Side::Of { child, other: row, kind: 4, first: true };
+        return Side::Of {
+            child,
+            other: row,
+            kind: 4,
+            first: true,
+        };
     }
     Side::Nothing
 }
@@ -41,13 +61,28 @@ pub fn right_side(kind: &[u8], left: &[u16], right: &[u16], row: usize) -> Side 
     let x = w.left as usize;
     let y = w.right as usize;
     if k == 5 {
-        return Side::Of { child: y, other: x, kind: 5, first: false };
+        return Side::Of {
+            child: y,
+            other: x,
+            kind: 5,
+            first: false,
+        };
     }
     if k == 3 {
-        return Side::Of { child: y, other: 0, kind: 4, first: true };
+        return Side::Of {
+            child: y,
+            other: 0,
+            kind: 4,
+            first: true,
+        };
     }
     if k == 4 && super::rows::empty_word(kind, left, right, x) {
-        return Side::Of { child: y, other: 0, kind: 4, first: true };
+        return Side::Of {
+            child: y,
+            other: 0,
+            kind: 4,
+            first: true,
+        };
     }
     Side::Nothing
 }
@@ -71,14 +106,40 @@ pub fn lift(
         return super::rows::Interned::At { row: other, used };
     }
     if first {
-        return super::rows::intern(kind, left, right, used, room, sign, member as u16, other as u16);
+        return super::rows::intern(
+            kind,
+            left,
+            right,
+            used,
+            room,
+            sign,
+            member as u16,
+            other as u16,
+        );
     }
-    super::rows::intern(kind, left, right, used, room, sign, other as u16, member as u16)
+    super::rows::intern(
+        kind,
+        left,
+        right,
+        used,
+        room,
+        sign,
+        other as u16,
+        member as u16,
+    )
 }
 
 // The member whose join with `other` is the row p. A join with the literal empty word is never made, though the given expression may
 // hold one.
-pub fn lower(kind: &[u8], left: &[u16], right: &[u16], other: usize, sign: u8, first: bool, p: usize) -> Lowered {
+pub fn lower(
+    kind: &[u8],
+    left: &[u16],
+    right: &[u16],
+    other: usize,
+    sign: u8,
+    first: bool,
+    p: usize,
+) -> Lowered {
     if other == 0 {
         return Lowered::Member { row: p };
     }

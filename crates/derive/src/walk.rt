@@ -1,8 +1,8 @@
 // The walk along a derivative's list: whether a tree is a member, and the member behind a given one.
 
-use super::sides::Side;
-use super::sides::Lowered;
 use super::rows::Interned;
+use super::sides::Lowered;
+use super::sides::Side;
 
 // Where a walk stands: before the list, or at one of its members.
 pub enum Place {
@@ -16,7 +16,14 @@ pub enum Stepped {
     NoRoom,
 }
 
-pub fn has(kind: &[u8], left: &[u16], right: &[u16], letter: u8, row: usize, member: usize) -> bool {
+pub fn has(
+    kind: &[u8],
+    left: &[u16],
+    right: &[u16],
+    letter: u8,
+    row: usize,
+    member: usize,
+) -> bool {
     let w = columns::row_at(kind, left, right, row);
     if w.kind == 2 {
         return w.left == letter as u16 && member == 0;
@@ -29,11 +36,25 @@ pub fn has(kind: &[u8], left: &[u16], right: &[u16], letter: u8, row: usize, mem
     side_has(kind, left, right, letter, b, member)
 }
 
-fn side_has(kind: &[u8], left: &[u16], right: &[u16], letter: u8, side: Side, member: usize) -> bool {
-    let Side::Of { child, other, kind: sign, first } = side else {
+fn side_has(
+    kind: &[u8],
+    left: &[u16],
+    right: &[u16],
+    letter: u8,
+    side: Side,
+    member: usize,
+) -> bool {
+    let Side::Of {
+        child,
+        other,
+        kind: sign,
+        first,
+    } = side
+    else {
         return false;
     };
-    let Lowered::Member { row } = super::sides::lower(kind, left, right, other, sign, first, member) else {
+    let Lowered::Member { row } = super::sides::lower(kind, left, right, other, sign, first, member)
+    else {
         return false;
     };
     has(kind, left, right, letter, child, row)
@@ -63,7 +84,17 @@ pub fn step(
     let b = super::sides::right_side(kind, left, right, row);
     if place_has(kind, left, right, letter, a, place) {
         match side_step(kind, left, right, used, room, letter, a, place) {
-            Stepped::End { used: u } => fresh_step(kind, left, right, u, room, letter, a, b, Place::Start),
+            Stepped::End { used: u } => fresh_step(
+                kind,
+                left,
+                right,
+                u,
+                room,
+                letter,
+                a,
+                b,
+                Place::Start,
+            ),
             other => other,
         }
     } else {
@@ -72,7 +103,14 @@ pub fn step(
 }
 
 // The start of the list and each member of the left side are walked there.
-fn place_has(kind: &[u8], left: &[u16], right: &[u16], letter: u8, side: Side, place: Place) -> bool {
+fn place_has(
+    kind: &[u8],
+    left: &[u16],
+    right: &[u16],
+    letter: u8,
+    side: Side,
+    place: Place,
+) -> bool {
     let Place::Behind { row } = place else {
         return true;
     };
@@ -89,7 +127,13 @@ fn side_step(
     side: Side,
     place: Place,
 ) -> Stepped {
-    let Side::Of { child, other, kind: sign, first } = side else {
+    let Side::Of {
+        child,
+        other,
+        kind: sign,
+        first,
+    } = side
+    else {
         return Stepped::End { used };
     };
     let inner = lower_place(kind, left, right, other, sign, first, place);
@@ -104,11 +148,20 @@ fn side_step(
     }
 }
 
-fn lower_place(kind: &[u8], left: &[u16], right: &[u16], other: usize, sign: u8, first: bool, place: Place) -> Place {
+fn lower_place(
+    kind: &[u8],
+    left: &[u16],
+    right: &[u16],
+    other: usize,
+    sign: u8,
+    first: bool,
+    place: Place,
+) -> Place {
     let Place::Behind { row } = place else {
         return Place::Start;
     };
-    let Lowered::Member { row: m } = super::sides::lower(kind, left, right, other, sign, first, row) else {
+    let Lowered::Member { row: m } = super::sides::lower(kind, left, right, other, sign, first, row)
+    else {
         return Place::Start;
     };
     Place::Behind { row: m }

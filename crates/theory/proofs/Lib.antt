@@ -11,4 +11,10 @@ pub mod Grammar
 pub mod Rows
 pub mod Sound
 pub mod KindOf
+pub mod ByKind
+pub mod Sum
+pub mod Times
+pub mod FirstFault
+pub mod TableRefusal
+pub mod WellFormed
 pub mod Examples

@@ -1,17 +1,15 @@
--- The trees of a table's rows: how many, which, that they depend on the rows so far alone, and that different rows without fault over
--- different trees have different trees. Assumes nothing.
+-- The trees of a table's rows: how many, which, that they depend on the rows so far alone, and what all of them have. Assumes nothing.
 use Prim.Native.Nat.{ℕ, zero, suc, _+_, _≤_, _<_}
 use native.Mathlib.Nat.{le-refl, le-of-suc-le-suc, not-suc-le-zero, eq-or-lt-of-le, le-step, le-trans}
-use native.Mathlib.Numerals.{add-one}
+use native.Mathlib.Decide.{le-ind}
 use native.Mathlib.Omega.{arith}
 use mathlib.Core.Path.{_≡_, refl, sym, ap, ap₂, _∙_, subst}
 use mathlib.Core.Logic.{_⊎_, inl, inr, ⊎-elim}
-use mathlib.Core.Bool.{Bool, true, false, cond, not, _&&_}
 use mathlib.Core.List.{List, [], _∷_, _++_, List·Memᴰ, List·Memᴰ·head, List·Memᴰ·append-cases, List·Memᴰ·eq-of-singleton, Memᴰ·append-left, Memᴰ·append-right, List·Memᴰ·not-nil}
 use lib.ListN.{length, getD, length-append, List·getD-append}
-use lib.Seq.{getD-append-add, getD-at}
-use Rattle.theory.specs.Expression.{Expression, Sign, ∅, ε, letter, binary, star, union, concatenation, shuffle}
-use Rattle.theory.specs.Table.{Table, Row, row, Meaning, ∅-kind, ε-kind, letter-kind, sign-kind, star-kind, unknown-kind, meaning, node, row-tree, trees, tree-at, children, row-children}
+use lib.Seq.{getD-at}
+use Rattle.theory.specs.Expression.{Expression, ∅}
+use Rattle.theory.specs.Table.{Table, Row, row, row-tree, trees, tree-at}
 
 pub trees-length : (t : Table) (n : ℕ) → length (trees t n) ≡ n
 unfolding trees
@@ -21,15 +19,12 @@ trees-length t (suc n) = length-append (trees t n) _ ∙ (let e = trees-length t
 -- The tree of a row does not change when rows come behind it.
 pub trees-below : (t : Table) (n i : ℕ) → i < n → getD (trees t n) i ∅ ≡ tree-at t i
 unfolding trees tree-at
-trees-below t zero i l = absurd (not-suc-le-zero l)
-trees-below t (suc n) i l = go (eq-or-lt-of-le (le-of-suc-le-suc l)) (λ m. trees-below t n i m)
+trees-below t n i l =
+    le-ind (λ (m : ℕ). getD (trees t m) i ∅ ≡ tree-at t i) last
+    (λ m im e. List·getD-append (trees t m) (row-tree (row t m) (trees t m) ∷ []) ∅ i (subst (λ (k : ℕ). i < k) (sym (trees-length t m)) im) ∙ e) n l
   where
-    go : (i ≡ n) ⊎ (i < n) → (i < n → getD (trees t n) i ∅ ≡ row-tree (row t i) (trees t i))
-        → getD (trees t n ++ (row-tree (row t n) (trees t n) ∷ [])) i ∅ ≡ row-tree (row t i) (trees t i)
-    go (inl e) ih =
-        getD-at (trees t n) (row-tree (row t n) (trees t n)) [] ∅ i (trees-length t n ∙ sym e)
-        ∙ ap (λ (k : ℕ). row-tree (row t k) (trees t k)) (sym e)
-    go (inr m) ih = List·getD-append (trees t n) _ ∅ i (subst (λ (k : ℕ). i < k) (sym (trees-length t n)) m) ∙ ih m
+    last : getD (trees t (suc i)) i ∅ ≡ row-tree (row t i) (trees t i)
+    last = getD-at (trees t i) (row-tree (row t i) (trees t i)) [] ∅ i (trees-length t i)
 
 -- Only the rows so far count.
 pub trees-kept : (t t′ : Table) (n : ℕ) → ((i : ℕ) → i < n → row t′ i ≡ row t i) → trees t′ n ≡ trees t n
@@ -63,3 +58,20 @@ to-trees t (suc n) i l = go (eq-or-lt-of-le (le-of-suc-le-suc l)) (λ m. to-tree
         → List·Memᴰ (row-tree (row t i) (trees t i)) (trees t n ++ (row-tree (row t n) (trees t n) ∷ []))
     go (inl e) ih = Memᴰ·append-right (trees t n) (List·Memᴰ·head (ap (λ (k : ℕ). row-tree (row t k) (trees t k)) e))
     go (inr m) ih = Memᴰ·append-left _ (ih m)
+
+-- What the empty language has, and each row's tree whatever the trees before it that have it, all trees have.
+module _ (P : Expression → Type 0) where
+  each-more : (ts : List Expression) (x : Expression) → ((j : ℕ) → P (getD ts j ∅)) → P x → (j : ℕ) → P (getD (ts ++ (x ∷ [])) j ∅)
+  each-more [] x h p zero = p
+  each-more [] x h p (suc j) = h j
+  each-more (y ∷ ys) x h p zero = h zero
+  each-more (y ∷ ys) x h p (suc j) = each-more ys x (λ k. h (suc k)) p j
+
+  pub trees-each : (t : Table) (n : ℕ) → P ∅
+      → ((i : ℕ) → i < n → (ts : List Expression) → ((j : ℕ) → P (getD ts j ∅)) → P (row-tree (row t i) ts))
+      → (j : ℕ) → P (getD (trees t n) j ∅)
+  unfolding trees
+  trees-each t zero e s j = e
+  trees-each t (suc n) e s j =
+      let before = trees-each t n e (λ i l. s i (le-trans l (omega arith))) in
+      each-more (trees t n) (row-tree (row t n) (trees t n)) before (s n (le-refl (suc n)) (trees t n) before) j
