@@ -1,1 +1,2 @@
 pub mod Growing
+pub mod Interning
