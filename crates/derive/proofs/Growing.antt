@@ -46,7 +46,7 @@ pub test-refuted : (w : Row) (k l r : ℕ) → row-test w k l r ≡ false → w 
 test-refuted w k l r e h =
     true≢false
     (sym (ap₂ _&&_ (ap₂ _&&_ (eq-eqb (w .kind) k (ap (λ (v : Row). v .kind) h)) (eq-eqb (w .left) l (ap (λ (v : Row). v .left) h)))
-      (eq-eqb (w .right) r (ap (λ (v : Row). v .right) h)))
+    (eq-eqb (w .right) r (ap (λ (v : Row). v .right) h)))
     ∙ e)
 
 -- None of the rows from `start` up to i is w.
