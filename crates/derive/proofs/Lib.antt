@@ -1,3 +1,4 @@
 pub mod Growing
 pub mod Interning
 pub mod Answering
+pub mod Taking
