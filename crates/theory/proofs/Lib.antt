@@ -6,6 +6,7 @@ pub mod Derivative
 pub mod Support
 pub mod States
 pub mod Bounds
+pub mod Meetings
 pub mod Trees
 pub mod Grammar
 pub mod Rows
