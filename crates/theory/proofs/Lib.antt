@@ -7,6 +7,7 @@ pub mod Support
 pub mod States
 pub mod Bounds
 pub mod Meetings
+pub mod Nearing
 pub mod Trees
 pub mod Grammar
 pub mod Rows

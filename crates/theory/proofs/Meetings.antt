@@ -99,7 +99,7 @@ states-targets i (x ∷ xs) =
     map-append (λ (m : Meeting). m .target) (by-letters i x alphabet) (by-states (suc i) xs)
     ∙ ap₂ _++_ (letters-targets i x) (states-targets (suc i) xs)
 
-so-far-met : (e : Expression) (xs : List Expression) → so-far e (by-states 0 xs) ≡ met e xs
+pub so-far-met : (e : Expression) (xs : List Expression) → so-far e (by-states 0 xs) ≡ met e xs
 unfolding so-far met
 so-far-met e xs = ap (λ ys. distinct same (e ∷ ys)) (states-targets 0 xs)
 
@@ -138,17 +138,25 @@ so-far-new e done m n =
 
 -- ---- In 01's order
 
-ascending-more : (first n : ℕ) → ascending first (suc n) ≡ ascending first n ++ ((first + n) ∷ [])
+pub ascending-more : (first n : ℕ) → ascending first (suc n) ≡ ascending first n ++ ((first + n) ∷ [])
 unfolding ascending
 ascending-more first zero = ap (λ (k : ℕ). k ∷ []) (sym (add-zero first))
 ascending-more first (suc n) =
     ap {B = List ℕ} (λ (t : List ℕ). first ∷ t) (ascending-more (suc first) n ∙ ap (λ (k : ℕ). ascending (suc first) n ++ (k ∷ [])) (suc-add first n ∙ sym (add-suc first n)))
 
-by-letters-append : (i : ℕ) (x : Expression) (us vs : List ℕ) → by-letters i x (us ++ vs) ≡ by-letters i x us ++ by-letters i x vs
+pub ascending-split : (first m n : ℕ) → ascending first (m + n) ≡ ascending first m ++ ascending (first + m) n
+unfolding ascending
+ascending-split first zero n = ap₂ ascending (sym (add-zero first)) (zero-add n)
+ascending-split first (suc m) n =
+    ap (ascending first) (suc-add m n)
+    ∙ ap {B = List ℕ} (λ (t : List ℕ). first ∷ t)
+      (ascending-split (suc first) m n ∙ ap (λ (k : ℕ). ascending (suc first) m ++ ascending k n) (suc-add first m ∙ sym (add-suc first m)))
+
+pub by-letters-append : (i : ℕ) (x : Expression) (us vs : List ℕ) → by-letters i x (us ++ vs) ≡ by-letters i x us ++ by-letters i x vs
 unfolding by-letters
 by-letters-append i x us vs = flatMap-append (λ a. map (meeting i a) (derivative a x)) us vs
 
-by-states-append : (i : ℕ) (xs ys : List Expression) → by-states i (xs ++ ys) ≡ by-states i xs ++ by-states (i + length xs) ys
+pub by-states-append : (i : ℕ) (xs ys : List Expression) → by-states i (xs ++ ys) ≡ by-states i xs ++ by-states (i + length xs) ys
 unfolding by-states
 by-states-append i [] ys = ap (λ (k : ℕ). by-states k ys) (sym (add-zero i))
 by-states-append i (x ∷ xs) ys =
