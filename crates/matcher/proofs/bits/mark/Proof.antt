@@ -1,4 +1,12 @@
+-- `bits::mark` meets its contract: the one store sets the state's digit in its word.
 use borrow.Author.Needs.{needs}
+use Prim.Native.Nat.{ℕ, _*_, _/_, _%_, _^_, _<_}
+use native.Mathlib.Omega.{arith}
+use mathlib.Core.Path.{_≡_, ap, _∙_}
+use mathlib.Core.List.{List}
+use lib.ListN.{getD, set}
+use lib.Bits.{bitOr}
+use Rattle.matcher.specs.Bits.{bit}
 use lib.Pow.{pow-lt}
 use native.Mathlib.Nat.{one-mul, mod-eq-of-lt}
 use Rattle.matcher.proofs.Words.{bit-mark}
@@ -31,9 +39,14 @@ slice-write-words c = search needs
 same-length : tie.Need-same-length
 same-length c = search needs
 
+one-shifted : (k : ℕ) → k < 64 → 1 * 2 ^ k % 2 ^ 64 ≡ 2 ^ k
+one-shifted k l = ap (λ (n : ℕ). n % 2 ^ 64) (one-mul (2 ^ k)) ∙ mod-eq-of-lt (pow-lt l)
+
 -- src/bits.rt:18:1
 returns : tie.Need-returns
-returns c = ?
+returns c = λ t.
+    ap (λ (digit : ℕ). bit (set (c .before .args .words .now) (c .before .args .state / 64) (bitOr (getD (c .before .args .words .now) (c .before .args .state / 64) 0) digit)) t) (one-shifted (c .before .args .state % 64) (omega arith))
+    ∙ bit-mark (c .before .args .words .now) (c .before .args .state) (c .before .pre) t
 
 pub mark-spec : {M : Type 1} → statement M
 mark-spec =

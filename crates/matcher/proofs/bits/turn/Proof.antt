@@ -1,8 +1,9 @@
+-- `bits::turn` meets its contract: after i turns the first i words are handed over and cleared.
 use borrow.Author.Needs.{needs}
 use Prim.Native.Nat.{_≤_, _-_}
 use native.Mathlib.Omega.{arith}
 use lib.ListN.{length, length-set}
-use Rattle.matcher.proofs.Turn.{Turned, turned-none, turned-more}
+use Rattle.matcher.proofs.Turn.{Turned, turned-none, turned-more, turned-end}
 use Rattle.matcher.proofs.bits.turn.Statement.{statement}
 use Rattle.matcher.proofs.bits.turn.Tie as tie
 use Rattle.matcher.proofs.bits.turn.Reads as reads
@@ -52,7 +53,13 @@ loop-less c = search needs
 
 -- src/bits.rt:48:5
 loop-again : tie.Need-loop-again Inv-loop μ-loop
-loop-again c = search needs
+loop-again c =
+    let r = c .before .before .loop .inv .1 in
+    (
+      omega arith,
+      turned-more r (omega (arith, r .current-length)) (omega (arith, r .next-length))
+      (omega (arith, c .slice-known .given (c .before .before .loop .i))),
+    )
 
 -- src/bits.rt:40:1
 same-length : tie.Need-same-length Inv-loop μ-loop
@@ -64,7 +71,9 @@ same-length-2 c = search needs
 
 -- src/bits.rt:40:1
 returns : tie.Need-returns Inv-loop μ-loop
-returns c = search needs
+returns c =
+    let r = turned-end (c .before .loop .inv .1) (c .before .loop .inv .0) (c .loop-test .left) in
+    (r .handed, (r .cleared, r .set-so-far))
 
 pub turn-spec : {M : Type 1} → statement M
 turn-spec =

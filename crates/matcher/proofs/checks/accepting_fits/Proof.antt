@@ -7,7 +7,7 @@ use lib.ListN.{getD}
 use lib.Dec.{leb}
 use native.Mathlib.Omega.{arith}
 use Rattle.theory.specs.Record.{all-below}
-use Rattle.theory.proofs.Below.{all-more}
+use Rattle.matcher.proofs.Passed.{all-next, all-end}
 use Rattle.matcher.proofs.checks.accepting_fits.Statement.{statement}
 use Rattle.matcher.proofs.checks.accepting_fits.Tie as tie
 use Rattle.matcher.proofs.checks.accepting_fits.Reads as reads
@@ -38,17 +38,11 @@ loop-less c = search needs
 
 -- src/checks.rt:16:5
 loop-again : tie.Need-loop-again Inv-loop μ-loop
-loop-again c = (
-  omega arith,
-  ap (λ (b : Bool). b && leb (getD (c .before .before .before .args .accepting .now) (c .before .before .loop .t) 0) 1) (c .before .before .loop .inv .1)
-      ∙ sym (all-more (c .before .before .loop .t) _),
-)
+loop-again c = (omega arith, all-next _ _ (c .before .before .loop .inv .1))
 
 -- src/checks.rt:10:1
 returns : tie.Need-returns Inv-loop μ-loop
-returns c =
-    let end : c .before .loop .t ≡ c .before .before .args .states = omega arith in
-    c .before .loop .inv .1 ∙ ap (λ (n : ℕ). all-below n _) end
+returns c = all-end _ (c .before .loop .inv .1) (c .before .loop .inv .0) (c .loop-test .left)
 
 pub accepting-fits-spec : {M : Type 1} → statement M
 accepting-fits-spec =

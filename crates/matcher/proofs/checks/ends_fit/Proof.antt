@@ -7,7 +7,7 @@ use lib.ListN.{getD}
 use lib.Dec.{leb, ltb, eqb}
 use native.Mathlib.Omega.{arith}
 use Rattle.theory.specs.Record.{all-below}
-use Rattle.theory.proofs.Below.{all-more}
+use Rattle.matcher.proofs.Passed.{all-next, all-end}
 use Rattle.matcher.proofs.checks.ends_fit.Statement.{statement}
 use Rattle.matcher.proofs.checks.ends_fit.Tie as tie
 use Rattle.matcher.proofs.checks.ends_fit.Reads as reads
@@ -34,7 +34,7 @@ shared-slice-read-ends c = search needs
 
 -- src/checks.rt:33:22
 cast-ends : tie.Need-cast-ends Inv-loop μ-loop
-cast-ends c = search needs
+cast-ends c = omega (arith, c .shared-slice-known .given (c .before .before .loop .i))
 
 -- src/checks.rt:33:54
 mul-ends-2 : tie.Need-mul-ends-2 Inv-loop μ-loop
@@ -46,7 +46,7 @@ shared-slice-read-ends-2 c = search needs
 
 -- src/checks.rt:33:54
 cast-ends-2 : tie.Need-cast-ends-2 Inv-loop μ-loop
-cast-ends-2 c = search needs
+cast-ends-2 c = omega (arith, c .shared-slice-known2 .given (c .before .before .before .loop .i))
 
 -- src/checks.rt:34:30
 shared-slice-read-fit : tie.Need-shared-slice-read-fit Inv-loop μ-loop
@@ -62,13 +62,12 @@ loop-less c = search needs
 
 -- src/checks.rt:32:5
 loop-again : tie.Need-loop-again Inv-loop μ-loop
-loop-again c = search needs
+loop-again c = (omega arith, all-next _ _ (c .before .before .before .before .loop .inv .1))
+
 
 -- src/checks.rt:23:1
 returns : tie.Need-returns Inv-loop μ-loop
-returns c =
-    let end : c .before .loop .i ≡ c .before .before .args .arcs = omega arith in
-    c .before .loop .inv .1 ∙ ap (λ (n : ℕ). all-below n _) end
+returns c = all-end _ (c .before .loop .inv .1) (c .before .loop .inv .0) (c .loop-test .left)
 
 pub ends-fit-spec : {M : Type 1} → statement M
 ends-fit-spec =

@@ -1,0 +1,32 @@
+-- What stands at a place of a record, read off the cursor's step. Assumes nothing.
+use Prim.Native.Nat.{ℕ, _+_, _≤_, _<_}
+use native.Mathlib.Omega.{arith}
+use mathlib.Core.Path.{_≡_, refl, sym, ap, _∙_}
+use mathlib.Core.Bool.{Bool, true, false, cond}
+use mathlib.Core.List.{List}
+use lib.ListN.{length, getD}
+use lib.Dec.{ltb}
+use borrow.Author.Tests.{ltb-true, ltb-false}
+use Rattle.columns.specs.Cursor.{step-at}
+use Rattle.columns.specs.declared.Cursor.{Cursor}
+use Rattle.columns.specs.declared.Step.{Step}
+use Rattle.columns.specs.declared.Step.the-variants.{Byte, End}
+
+-- A byte: the place is inside, the byte is the record's, and the cursor goes one further.
+pub at-byte : (w : List ℕ) (p b : ℕ) (behind : Cursor) → Byte b behind ≡ step-at w p
+    → (p < length w) × (b ≡ getD w p 0) × (behind .at ≡ p + 1)
+at-byte w p b behind e = go (ltb p (length w)) refl e
+  where
+    go : (d : Bool) → ltb p (length w) ≡ d → Byte b behind ≡ cond d (Byte (getD w p 0) (record { at = p + 1 })) End
+        → (p < length w) × (b ≡ getD w p 0) × (behind .at ≡ p + 1)
+    go true l q =
+        let same : behind ≡ record { at = p + 1 } = cc in
+        (ltb-true p (length w) l, cc, ap (λ (c : Cursor). c .at) same)
+    go false l q = absurd (let z : _≡_ {A = ℕ} 0 1 = cc in omega arith)
+
+pub at-end-of : (w : List ℕ) (p : ℕ) → End ≡ step-at w p → length w ≤ p
+at-end-of w p e = go (ltb p (length w)) refl e
+  where
+    go : (d : Bool) → ltb p (length w) ≡ d → End ≡ cond d (Byte (getD w p 0) (record { at = p + 1 })) End → length w ≤ p
+    go true l q = absurd (let z : _≡_ {A = ℕ} 0 1 = cc in omega arith)
+    go false l q = ltb-false p (length w) l

@@ -1,0 +1,69 @@
+-- `moves::accepts` meets its contract: the answer is that of the states passed.
+use borrow.Author.Needs.{needs}
+use Prim.Native.Nat.{_-_, _≤_}
+use native.Mathlib.Omega.{arith}
+use mathlib.Core.Path.{_≡_, ap, _∙_}
+use mathlib.Core.Bool.{Bool, _&&_, _||_}
+use lib.ListN.{getD}
+use lib.Dec.{eqb}
+use Rattle.theory.specs.Record.{some-below}
+use Rattle.matcher.specs.Bits.{bit}
+use Rattle.matcher.proofs.Passed.{some-next, some-end}
+use Rattle.matcher.proofs.moves.accepts.Statement.{statement}
+use Rattle.matcher.proofs.moves.accepts.Tie as tie
+use Rattle.matcher.proofs.moves.accepts.Reads as reads
+use Rattle.matcher.proofs.moves.accepts.Lts as lts
+use Rattle.matcher.proofs.bits.marked.Reads as marked-reads
+
+abbrev Inv-loop : tie.InvT-loop
+Inv-loop states accepting current any₀ t₀ any t = (t ≤ states) × (any ≡ some-below t (λ k. bit current k && eqb (getD accepting k 0) 1))
+
+abbrev μ-loop : tie.MeasureT-loop
+μ-loop states accepting current any₀ t₀ any t = states - t
+
+-- src/moves.rt:91:5
+loop-holds : tie.Need-loop-holds Inv-loop μ-loop
+unfolding some-below
+loop-holds c = search needs
+
+-- src/moves.rt:92:22
+marked-requires : tie.Need-marked-requires Inv-loop μ-loop
+marked-requires c κs = search needs
+
+-- src/moves.rt:92:57
+shared-slice-read-any : tie.Need-shared-slice-read-any Inv-loop μ-loop
+shared-slice-read-any c = search needs
+
+-- src/moves.rt:93:9
+add-t : tie.Need-add-t Inv-loop μ-loop
+add-t c = search needs
+
+-- src/moves.rt:91:5
+loop-less : tie.Need-loop-less Inv-loop μ-loop
+loop-less c = search needs
+
+-- src/moves.rt:91:5
+loop-again : tie.Need-loop-again Inv-loop μ-loop
+loop-again c = (
+  omega arith,
+  ap (λ (b : Bool). c .before .before .before .loop .any || (b && eqb (getD (c .before .before .before .before .before .before .args .accepting .now) (c .before .before .before .loop .t) 0) 1)) (c .before .marked .ensures)
+      ∙ some-next _ _ (c .before .before .before .loop .inv .1),
+)
+
+-- src/moves.rt:84:1
+returns : tie.Need-returns Inv-loop μ-loop
+returns c = some-end _ (c .before .loop .inv .1) (c .before .loop .inv .0) (c .loop-test .left)
+
+pub accepts-spec : {M : Type 1} → statement M
+accepts-spec =
+    tie.close
+    (tie.spec
+    Inv-loop
+    μ-loop
+    loop-holds
+    marked-requires
+    shared-slice-read-any
+    add-t
+    loop-less
+    loop-again
+    returns)
