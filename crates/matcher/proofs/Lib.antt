@@ -4,3 +4,4 @@ pub mod Passed
 pub mod Spread
 pub mod Place
 pub mod Walk
+pub mod Refused

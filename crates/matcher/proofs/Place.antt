@@ -12,16 +12,20 @@ use Rattle.columns.specs.declared.Cursor.{Cursor}
 use Rattle.columns.specs.declared.Step.{Step}
 use Rattle.columns.specs.declared.Step.the-variants.{Byte, End}
 
--- A byte: the place is inside, the byte is the record's, and the cursor goes one further.
-pub at-byte : (w : List ℕ) (p b : ℕ) (behind : Cursor) → Byte b behind ≡ step-at w p
-    → (p < length w) × (b ≡ getD w p 0) × (behind .at ≡ p + 1)
+-- The place is inside, the byte is the record's, and the cursor goes one further.
+pub record Read (w : List ℕ) (p b : ℕ) (behind : Cursor) : Type 0 where
+  pub inside : p < length w
+  pub byte : b ≡ getD w p 0
+  pub further : behind .at ≡ p + 1
+
+pub at-byte : (w : List ℕ) (p b : ℕ) (behind : Cursor) → Byte b behind ≡ step-at w p → Read w p b behind
 at-byte w p b behind e = go (ltb p (length w)) refl e
   where
     go : (d : Bool) → ltb p (length w) ≡ d → Byte b behind ≡ cond d (Byte (getD w p 0) (record { at = p + 1 })) End
-        → (p < length w) × (b ≡ getD w p 0) × (behind .at ≡ p + 1)
+        → Read w p b behind
     go true l q =
         let same : behind ≡ record { at = p + 1 } = cc in
-        (ltb-true p (length w) l, cc, ap (λ (c : Cursor). c .at) same)
+        record { inside = ltb-true p (length w) l; byte = cc; further = ap (λ (c : Cursor). c .at) same }
     go false l q = absurd (let z : _≡_ {A = ℕ} 0 1 = cc in omega arith)
 
 pub at-end-of : (w : List ℕ) (p : ℕ) → End ≡ step-at w p → length w ≤ p

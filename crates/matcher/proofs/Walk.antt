@@ -1,7 +1,7 @@
 -- A record walked byte by byte: what the two columns hold at a place, how a byte goes on, and how the walk ends. Assumes nothing.
 use Prim.Native.Nat.{ℕ, _+_, _*_, _/_, _≤_, _<_}
 use native.Mathlib.Omega.{arith}
-use mathlib.Core.Path.{_≡_, refl, sym, ap, _∙_}
+use mathlib.Core.Path.{_≡_, refl, sym, ap, _∙_, subst}
 use mathlib.Core.Bool.{Bool, true, false, cond, _||_}
 use mathlib.Core.List.{List}
 use lib.ListN.{length, getD, take, drop}
@@ -34,7 +34,7 @@ inside k lc ln = record {
 -- ---- At a place
 
 -- The states that the first p bytes reach.
-abbrev so-far : Handed → Word → ℕ → States
+abbrev pub so-far : Handed → Word → ℕ → States
 so-far h w p = after h start (take p w)
 
 -- The first p bytes of w are walked: their states are set in `current`, `next` is clear, and no byte of them was dead.
@@ -46,6 +46,9 @@ pub record Walk (h : Handed) (w : Word) (current next : List ℕ) (p : ℕ) : Ty
 pub walk-start : {h : Handed} {w : Word} {current next : List ℕ} → Ready current next → Walk h w current next 0
 unfolding after
 walk-start r = record { set = r .started; clear = r .clear; rest = refl }
+
+pub walk-at : {h : Handed} {w : Word} {current next : List ℕ} {p q : ℕ} → p ≡ q → Walk h w current next p → Walk h w current next q
+walk-at {h} {w} {current} {next} e r = subst (Walk h w current next) e r
 
 pub walk-whole : {h : Handed} {w : Word} {current next : List ℕ} {p : ℕ} → Walk h w current next p → length w ≤ p → Ended h w Whole current
 unfolding reached
@@ -63,44 +66,48 @@ pub record Turn (h : Handed) (s : States) (b : ℕ) (current next : List ℕ) (a
   pub some-set : any ≡ some-below (h .states) (moved h s b)
 
 module _ (h : Handed) (w : Word) {current₀ next₀ current next : List ℕ} {p : ℕ} (k : Sound h current₀ next₀) (r : Walk h w current next p) where
-  spread-all : (b : ℕ) (filled : List ℕ)
-      → ((t : ℕ) → bit filled t ≡ (bit next t || some-below (h .arcs) (leads (h .from) (h .letter) (h .to) (bit current) b t)))
+  spread-all : {a b : ℕ} → a ≡ b → (filled : List ℕ)
+      → ((t : ℕ) → bit filled t ≡ (bit next t || some-below (h .arcs) (leads (h .from) (h .letter) (h .to) (bit current) a t)))
       → (t : ℕ) → bit filled t ≡ moved h (so-far h w p) b t
   unfolding moved
-  spread-all b filled e t =
-      e t ∙ ap (λ (d : Bool). d || moved h (bit current) b t) (r .clear t) ∙ moved-cong h (bit current) (so-far h w p) (r .set) b t
+  spread-all {a} {b} same filled e t =
+      e t ∙ ap (λ (d : Bool). d || moved h (bit current) a t) (r .clear t) ∙ moved-cong h (bit current) (so-far h w p) (r .set) a t
+      ∙ ap (λ (c : ℕ). moved h (so-far h w p) c t) same
 
   beyond : (t : ℕ) → h .states ≤ t → bit current t ≡ false
   beyond t l = r .set t ∙ after-below h (k .to-below) start (start-below (h .states) (k .not-empty)) (take p w) t l
 
   -- The ends of the arcs are set in `filled`, which is then handed over.
-  pub one-byte : (b : ℕ) (filled : List ℕ) {current′ next′ : List ℕ} {any : Bool}
-      → ((t : ℕ) → bit filled t ≡ (bit next t || some-below (h .arcs) (leads (h .from) (h .letter) (h .to) (bit current) b t)))
+  pub one-byte : {a b : ℕ} → a ≡ b → (filled : List ℕ) {current′ next′ : List ℕ} {any : Bool}
+      → ((t : ℕ) → bit filled t ≡ (bit next t || some-below (h .arcs) (leads (h .from) (h .letter) (h .to) (bit current) a t)))
       → ((t : ℕ) → bit current′ t ≡ cond (ltb (t / 64) (words (h .states))) (bit filled t) (bit current t))
       → ((t : ℕ) → bit next′ t ≡ cond (ltb (t / 64) (words (h .states))) false (bit filled t))
       → any ≡ some-below (words (h .states) * 64) (bit filled)
       → Turn h (so-far h w p) b current′ next′ any
-  one-byte b filled f c n s = record {
+  one-byte {b = b} same filled f c n s = record {
     set = λ t. c t ∙ choose t (ltb (t / 64) (words (h .states))) refl;
     clear = λ t. n t ∙ empty t (ltb (t / 64) (words (h .states))) refl;
     some-set =
         s ∙ some-cong (words (h .states) * 64) (bit filled) (moved h (so-far h w p) b) (λ t _. e t)
-        ∙ some-longer (h .states) (words (h .states) * 64) (moved h (so-far h w p) b) (omega arith) (moved-below h (k .to-below) (so-far h w p) b);
+        ∙ some-longer (h .states) (words (h .states) * 64) (moved h (so-far h w p) b) (omega arith) none-far;
   }
     where
       e : (t : ℕ) → bit filled t ≡ moved h (so-far h w p) b t
-      e = spread-all b filled f
+      e = spread-all same filled f
+
+      none-far : (t : ℕ) → h .states ≤ t → moved h (so-far h w p) b t ≡ false
+      none-far = moved-below h (k .to-below) (so-far h w p) b
 
       far : (t : ℕ) → ltb (t / 64) (words (h .states)) ≡ false → h .states ≤ t
       far t f = let l = ltb-false (t / 64) (words (h .states)) f in omega arith
 
       choose : (t : ℕ) (d : Bool) → ltb (t / 64) (words (h .states)) ≡ d → cond d (bit filled t) (bit current t) ≡ moved h (so-far h w p) b t
       choose t true f = e t
-      choose t false f = beyond t (far t f) ∙ sym (moved-below h (k .to-below) (so-far h w p) b t (far t f))
+      choose t false f = beyond t (far t f) ∙ sym (none-far t (far t f))
 
       empty : (t : ℕ) (d : Bool) → ltb (t / 64) (words (h .states)) ≡ d → cond d false (bit filled t) ≡ false
       empty t true f = refl
-      empty t false f = e t ∙ moved-below h (k .to-below) (so-far h w p) b t (far t f)
+      empty t false f = e t ∙ none-far t (far t f)
 
   pub walk-more : {current′ next′ : List ℕ} {any : Bool} → p < length w → Turn h (so-far h w p) (getD w p 0) current′ next′ any
       → any ≡ true → Walk h w current′ next′ (p + 1)

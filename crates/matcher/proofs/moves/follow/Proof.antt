@@ -1,0 +1,88 @@
+use borrow.Author.Needs.{needs}
+use Rattle.matcher.proofs.moves.follow.Statement.{statement}
+use Rattle.matcher.proofs.moves.follow.Tie as tie
+use Rattle.matcher.proofs.moves.follow.Reads as reads
+use Rattle.matcher.proofs.moves.follow.Lts as lts
+use Rattle.matcher.proofs.bits.count.Reads as count-reads
+use Rattle.matcher.proofs.moves.accepts.Reads as accepts-reads
+use Rattle.matcher.proofs.moves.walk.Reads as walk-reads
+
+-- src/moves.rt:120:11
+walk-requires : tie.Need-walk-requires
+walk-requires c κs = search needs
+
+-- src/moves.rt:121:24
+enum-known-place : tie.Need-enum-known-place
+enum-known-place c = search needs
+
+-- src/moves.rt:124:44
+enum-told : tie.Need-enum-told
+enum-told c = search needs
+
+-- src/moves.rt:124:44
+add-count : tie.Need-add-count
+add-count c = search needs
+
+-- src/moves.rt:124:17
+count-requires : tie.Need-count-requires
+count-requires c κs = search needs
+
+-- src/moves.rt:125:16
+accepts-requires : tie.Need-accepts-requires
+accepts-requires c κs = search needs
+
+-- src/moves.rt:98:1
+same-length : tie.Need-same-length
+same-length c = search needs
+
+-- src/moves.rt:98:1
+same-length-2 : tie.Need-same-length-2
+same-length-2 c = search needs
+
+-- src/moves.rt:98:1
+returns : tie.Need-returns
+returns c = search needs
+
+-- src/moves.rt:98:1
+same-length-3 : tie.Need-same-length-3
+same-length-3 c = search needs
+
+-- src/moves.rt:98:1
+same-length-4 : tie.Need-same-length-4
+same-length-4 c = search needs
+
+-- src/moves.rt:98:1
+returns-2 : tie.Need-returns-2
+returns-2 c = search needs
+
+-- src/moves.rt:98:1
+same-length-5 : tie.Need-same-length-5
+same-length-5 c = search needs
+
+-- src/moves.rt:98:1
+same-length-6 : tie.Need-same-length-6
+same-length-6 c = search needs
+
+-- src/moves.rt:98:1
+returns-3 : tie.Need-returns-3
+returns-3 c = search needs
+
+pub follow-spec : {M : Type 1} → statement M
+follow-spec =
+    tie.close
+    (tie.spec
+    walk-requires
+    enum-known-place
+    enum-told
+    add-count
+    count-requires
+    accepts-requires
+    same-length
+    same-length-2
+    returns
+    same-length-3
+    same-length-4
+    returns-2
+    same-length-5
+    same-length-6
+    returns-3)
