@@ -5,3 +5,5 @@ pub mod Spread
 pub mod Place
 pub mod Walk
 pub mod Refused
+pub mod Answered
+pub mod Judging

@@ -107,3 +107,46 @@ counts-told h e =
       accepting-long = leb-true _ _ (and-right (not (eqb (h .states) 0) && leb (h .states) 65535) _ states);
       from-long = leb-true _ _ (and-left (leb (h .arcs) (length (h .from))) _ arcs);
     }
+
+-- ---- What is not refused
+
+pub not-refused : (h : Handed) (current next : List ℕ) → (matcher-refusal h (length current) (length next)) .number ≡ 0
+    → (h .states ≤ length (h .accepting)) × Sound h current next
+unfolding ends-fit
+not-refused h current next e =
+    go (alike h) refl (counts-fit h) refl (values-fit h) refl (short h (length current) (length next)) refl
+    (numbered h (length current) (length next) _ _ _ _ refl refl refl refl ∙ e)
+  where
+    ends : values-fit h ≡ true → (i : ℕ) → i < h .arcs
+        → (ltb (getD (h .from) i 0) (h .states) && ltb (getD (h .to) i 0) (h .states) && not (eqb (getD (h .letter) i 0) 0)) ≡ true
+    ends v i l = all-at (h .arcs) _ i (and-right (accepting-fits h) (ends-fit h) v) l
+
+    told : Alike h → Counted h → values-fit h ≡ true → short h (length current) (length next) ≡ false
+        → (h .states ≤ length (h .accepting)) × Sound h current next
+    told a n v s =
+        let long = n .from-long in
+        let letters = a .letter-same in
+        let tos = a .to-same in (
+          n .accepting-long,
+          record {
+            not-empty = n .not-empty;
+            states-few = n .states-few;
+            from-long = long;
+            letter-long = omega arith;
+            to-long = omega arith;
+            from-below = λ i l. ltb-true _ _ (and-left _ _ (and-left (ltb (getD (h .from) i 0) (h .states) && ltb (getD (h .to) i 0) (h .states)) _ (ends v i l)));
+            to-below = λ i l.
+                ltb-true _ _ (and-right (ltb (getD (h .from) i 0) (h .states)) _ (and-left (ltb (getD (h .from) i 0) (h .states) && ltb (getD (h .to) i 0) (h .states)) _ (ends v i l)));
+            current-words = ltb-false _ _ (or-left (ltb (length current) (words (h .states))) _ s);
+            next-words = ltb-false _ _ (or-right (ltb (length current) (words (h .states))) _ s);
+          },
+        )
+
+    go : (equal : Bool) → alike h ≡ equal → (counts : Bool) → counts-fit h ≡ counts → (inside : Bool) → values-fit h ≡ inside
+        → (few : Bool) → short h (length current) (length next) ≡ few → number-of equal counts inside few ≡ 0
+        → (h .states ≤ length (h .accepting)) × Sound h current next
+    go true a true c true v false s z = told (alike-told h a) (counts-told h c) v s
+    go true a true c true v true s z = absurd (eqb-false 11 0 refl z)
+    go true a true c false v few s z = absurd (eqb-false 10 0 refl z)
+    go true a false c inside v few s z = absurd (eqb-false 10 0 refl z)
+    go false a counts c inside v few s z = absurd (eqb-false 1 0 refl z)

@@ -2,7 +2,6 @@
 
 use columns::Cursor;
 use columns::Step;
-
 ghost use mathlib.Core.Path.{_≡_};
 ghost use mathlib.Core.Bool.{_&&_, _||_};
 ghost use mathlib.Core.List.{List};

@@ -1,10 +1,11 @@
--- Laws of the states that a record reaches: one byte more, no state beyond the state count, the first dead byte, and live after it.
+-- Laws of the states that a record reaches: one byte more, no state beyond the state count, the first dead byte, live after it, and the
+-- verdict.
 -- Assumes nothing.
 use Prim.Native.Nat.{ℕ, zero, suc, _+_, _≤_, _<_}
 use native.Mathlib.Numerals.{add-one}
 use native.Mathlib.Omega.{arith}
 use mathlib.Core.Path.{_≡_, refl, sym, ap, _∙_, subst}
-use mathlib.Core.Bool.{Bool, true, false, false≢true}
+use mathlib.Core.Bool.{Bool, true, false, cond, false≢true}
 use mathlib.Core.List.{List, [], _∷_, _++_}
 use mathlib.Core.Option.{Option, none, some}
 use lib.ListN.{length, getD, take, drop, drop-of-length-le}
@@ -12,7 +13,7 @@ use lib.Seq.{take-suc, drop-cons}
 use lib.Dec.{eqb, ltb}
 use borrow.Author.Tests.{ne-eqb, ltb-true, ltb-false}
 use Rattle.theory.specs.Language.{Word}
-use Rattle.theory.specs.Record.{Handed, States, some-below, count-below, start, leads, moved, after, reached, dead-at, live}
+use Rattle.theory.specs.Record.{Handed, States, some-below, count-below, start, leads, moved, after, reached, dead-at, accepts, Verdict, accepted, unfinished, wrong, verdict, live}
 use Rattle.theory.proofs.Below.{some-cong, some-none, some-at, count-none}
 
 -- ---- One byte
@@ -143,3 +144,15 @@ dead-after h ends s p q (b ∷ w) e t =
 pub live-dead : (h : Handed) → Ends h → (p : ℕ) (w : Word) → dead-at h start 0 w ≡ some p → live h w ≡ 0
 unfolding live reached
 live-dead h ends p w e = count-none (h .states) (after h start w) (λ t _. dead-after h ends start 0 p w e t)
+
+-- ---- The verdict
+
+pub verdict-wrong : (h : Handed) (w : Word) (p : ℕ) → dead-at h start 0 w ≡ some p → verdict h w ≡ wrong p
+unfolding verdict
+verdict-wrong h w p e =
+    ap (λ (d : Option ℕ). elim d [ some q ↦ wrong q | none ↦ cond (accepts h w) accepted unfinished ]) e
+
+pub verdict-whole : (h : Handed) (w : Word) → dead-at h start 0 w ≡ none → verdict h w ≡ cond (accepts h w) accepted unfinished
+unfolding verdict
+verdict-whole h w e =
+    ap (λ (d : Option ℕ). elim d [ some q ↦ wrong q | none ↦ cond (accepts h w) accepted unfinished ]) e

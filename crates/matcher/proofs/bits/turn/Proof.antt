@@ -54,11 +54,10 @@ loop-less c = search needs
 -- src/bits.rt:48:5
 loop-again : tie.Need-loop-again Inv-loop μ-loop
 loop-again c =
-    let r = c .before .before .loop .inv .1 in
-    (
+    let r = c .before .before .loop .inv .1 in (
       omega arith,
       turned-more r (omega (arith, r .current-length)) (omega (arith, r .next-length))
-      (omega (arith, c .slice-known .given (c .before .before .loop .i))),
+          (omega (arith, c .slice-known .given (c .before .before .loop .i))),
     )
 
 -- src/bits.rt:40:1

@@ -64,7 +64,6 @@ loop-less c = search needs
 loop-again : tie.Need-loop-again Inv-loop μ-loop
 loop-again c = (omega arith, all-next _ _ (c .before .before .before .before .loop .inv .1))
 
-
 -- src/checks.rt:23:1
 returns : tie.Need-returns Inv-loop μ-loop
 returns c = all-end _ (c .before .loop .inv .1) (c .before .loop .inv .0) (c .loop-test .left)

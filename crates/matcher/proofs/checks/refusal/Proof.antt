@@ -1,4 +1,10 @@
-use borrow.Author.Needs.{needs}
+-- `checks::refusal` meets its contract: each way out is one case of the refusal's tests.
+use native.Mathlib.Omega.{arith}
+use mathlib.Core.Path.{_≡_, refl, sym, ap₂, _∙_}
+use mathlib.Core.Bool.{_&&_}
+use borrow.Author.Tests.{not-true, not-false}
+use Rattle.theory.specs.Record.{Handed, handed, states-fit, arcs-fit, accepting-fits, ends-fit}
+use Rattle.matcher.proofs.Refused.{values-fit, numbered, alike-told, counts-told}
 use Rattle.matcher.proofs.checks.refusal.Statement.{statement}
 use Rattle.matcher.proofs.checks.refusal.Tie as tie
 use Rattle.matcher.proofs.checks.refusal.Reads as reads
@@ -6,37 +12,59 @@ use Rattle.matcher.proofs.checks.refusal.Lts as lts
 use Rattle.matcher.proofs.checks.accepting_fits.Reads as accepting-fits-reads
 use Rattle.matcher.proofs.checks.ends_fit.Reads as ends-fit-reads
 
+abbrev automaton : tie.Start → Handed
+automaton c = handed (c .args .states) (c .args .accepting .now) (c .args .arcs) (c .args .from .now) (c .args .letter .now) (c .args .to .now)
+
 -- src/checks.rt:59:9
 returns : tie.Need-returns
-returns c = ?
+returns c = numbered (automaton (c .before .before .before .before .before)) (c .before .before .before .before .before .args .current) (c .before .before .before .before .before .args .next) _ _ _ _ (not-true _ (c .if1 .taken)) refl refl refl
 
 -- src/checks.rt:64:9
 returns-2 : tie.Need-returns-2
-returns-2 c = ?
+unfolding states-fit arcs-fit
+returns-2 c = numbered (automaton (c .before .before .before .before .before .before)) (c .before .before .before .before .before .before .args .current) (c .before .before .before .before .before .before .args .next) _ _ _ _ (not-false _ (c .before .if1 .left)) (not-true _ (c .if2 .taken)) refl refl
 
 -- src/checks.rt:66:10
 accepting-fits-requires : tie.Need-accepting-fits-requires
-accepting-fits-requires c κs = ?
+unfolding states-fit arcs-fit
+accepting-fits-requires c κs = counts-told (automaton (c .before .before .before .before .before .before)) (not-false _ (c .if2 .left)) .accepting-long
 
 -- src/checks.rt:66:46
 ends-fit-requires : tie.Need-ends-fit-requires
-ends-fit-requires c κs = ?
+unfolding states-fit arcs-fit
+ends-fit-requires c κs =
+    let same = alike-told (automaton (c .before .before .before .before .before .before .before)) (not-false _ (c .before .before .if1 .left)) in
+    let long = counts-told (automaton (c .before .before .before .before .before .before .before)) (not-false _ (c .before .if2 .left)) .from-long in
+    (long, omega (arith, same .letter-same), omega (arith, same .to-same))
+
+inside : (c : tie.After-ends-fit) → values-fit (automaton (c .before .before .before .before .before .before .before .before)) ≡ (c .before .accepting-fits .result && c .ends-fit .result)
+unfolding accepting-fits ends-fit
+inside c = sym (ap₂ _&&_ (c .before .accepting-fits .ensures) (c .ends-fit .ensures))
 
 -- src/checks.rt:67:9
 returns-3 : tie.Need-returns-3
-returns-3 c = ?
+unfolding states-fit arcs-fit accepting-fits ends-fit
+returns-3 c =
+    numbered (automaton (c .before .before .before .before .before .before .before .before .before)) (c .before .before .before .before .before .before .before .before .before .args .current) (c .before .before .before .before .before .before .before .before .before .args .next) _ _ _ _ (not-false _ (c .before .before .before .before .if1 .left)) (not-false _ (c .before .before .before .if2 .left)) (inside (c .before) ∙ not-true _ (c .if3 .taken)) refl
 
 -- src/checks.rt:69:18
 add-words : tie.Need-add-words
-add-words c = ?
+unfolding states-fit arcs-fit
+add-words c =
+    let few = counts-told (automaton (c .before .before .before .before .before .before .before .before .before)) (not-false _ (c .before .before .before .if2 .left)) .states-few in
+    omega arith
 
 -- src/checks.rt:71:9
 returns-4 : tie.Need-returns-4
-returns-4 c = ?
+unfolding states-fit arcs-fit accepting-fits ends-fit
+returns-4 c =
+    numbered (automaton (c .before .before .before .before .before .before .before .before .before .before)) (c .before .before .before .before .before .before .before .before .before .before .args .current) (c .before .before .before .before .before .before .before .before .before .before .args .next) _ _ _ _ (not-false _ (c .before .before .before .before .before .if1 .left)) (not-false _ (c .before .before .before .before .if2 .left)) (inside (c .before .before) ∙ not-false _ (c .before .if3 .left)) (c .if4 .taken)
 
 -- src/checks.rt:41:1
 returns-5 : tie.Need-returns-5
-returns-5 c = ?
+unfolding states-fit arcs-fit accepting-fits ends-fit
+returns-5 c =
+    numbered (automaton (c .before .before .before .before .before .before .before .before .before .before)) (c .before .before .before .before .before .before .before .before .before .before .args .current) (c .before .before .before .before .before .before .before .before .before .before .args .next) _ _ _ _ (not-false _ (c .before .before .before .before .before .if1 .left)) (not-false _ (c .before .before .before .before .if2 .left)) (inside (c .before .before) ∙ not-false _ (c .before .if3 .left)) (c .if4 .left)
 
 pub refusal-spec : {M : Type 1} → statement M
 refusal-spec =

@@ -1,4 +1,7 @@
+-- `moves::follow` meets its contract: each of its answers is the verdict with live.
 use borrow.Author.Needs.{needs}
+use mathlib.Core.Path.{sym, _∙_}
+use Rattle.matcher.proofs.Answered.{answered-wrong, answered-whole}
 use Rattle.matcher.proofs.moves.follow.Statement.{statement}
 use Rattle.matcher.proofs.moves.follow.Tie as tie
 use Rattle.matcher.proofs.moves.follow.Reads as reads
@@ -41,7 +44,7 @@ same-length-2 c = search needs
 
 -- src/moves.rt:98:1
 returns : tie.Need-returns
-returns c = search needs
+returns c = answered-wrong (c .before .before .before .before .before .before .before .before .before .before .before .before .before .before .before .before .before .pre .1 .0) (c .before .before .before .before .before .before .before .walk .ensures (c .before .before .before .before .before .before .before .before .before .before .before .before .before .before .before .before .before .args .accepting .now)) (c .before .place .given .1)
 
 -- src/moves.rt:98:1
 same-length-3 : tie.Need-same-length-3
@@ -53,7 +56,9 @@ same-length-4 c = search needs
 
 -- src/moves.rt:98:1
 returns-2 : tie.Need-returns-2
-returns-2 c = search needs
+returns-2 c =
+    answered-whole (c .before .before .before .before .before .before .before .before .before .before .before .before .before .before .before .before .before .before .before .before .before .pre .1 .0) (c .before .before .before .before .before .before .before .before .before .before .before .walk .ensures (c .before .before .before .before .before .before .before .before .before .before .before .before .before .before .before .before .before .before .before .before .before .args .accepting .now)) (c .before .before .before .before .before .enum-told .given .1)
+    (sym (c .if1 .taken) ∙ c .before .accepts .ensures) (c .before .before .before .count .ensures)
 
 -- src/moves.rt:98:1
 same-length-5 : tie.Need-same-length-5
@@ -65,7 +70,9 @@ same-length-6 c = search needs
 
 -- src/moves.rt:98:1
 returns-3 : tie.Need-returns-3
-returns-3 c = search needs
+returns-3 c =
+    answered-whole (c .before .before .before .before .before .before .before .before .before .before .before .before .before .before .before .before .before .before .before .before .before .pre .1 .0) (c .before .before .before .before .before .before .before .before .before .before .before .walk .ensures (c .before .before .before .before .before .before .before .before .before .before .before .before .before .before .before .before .before .before .before .before .before .args .accepting .now)) (c .before .before .before .before .before .enum-told .given .1)
+    (sym (c .if1 .left) ∙ c .before .accepts .ensures) (c .before .before .before .count .ensures)
 
 pub follow-spec : {M : Type 1} → statement M
 follow-spec =

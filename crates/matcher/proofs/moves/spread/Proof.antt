@@ -72,14 +72,13 @@ loop-less c = search needs
 -- src/moves.rt:36:5
 loop-again : tie.Need-loop-again Inv-loop μ-loop
 loop-again c =
-    let r = c .before .before .before .loop .inv .1 in
-    (
+    let r = c .before .before .before .loop .inv .1 in (
       omega arith,
       ⊎-elim
-      (λ w.
-        spread-set r (w .0 .taken) (sym (w .2 .ensures) ∙ w .3 .taken) (ap length (w .9) ∙ w .6 .kept .0)
-        (λ t. ap (λ (l : List ℕ). bit l t) (w .9) ∙ w .6 .ensures t))
-      (⊎-elim (λ w. spread-unset r (w .4) (sym (w .2 .ensures) ∙ w .3 .left)) (λ w. spread-other r (w .1) (w .0 .left))) (c .if1 .came),
+          (λ w.
+          spread-set r (w .0 .taken) (sym (w .2 .ensures) ∙ w .3 .taken) (ap length (w .9) ∙ w .6 .kept .0)
+          (λ t. ap (λ (l : List ℕ). bit l t) (w .9) ∙ w .6 .ensures t))
+          (⊎-elim (λ w. spread-unset r (w .4) (sym (w .2 .ensures) ∙ w .3 .left)) (λ w. spread-other r (w .1) (w .0 .left))) (c .if1 .came),
     )
 
 -- src/moves.rt:19:1

@@ -131,14 +131,13 @@ loop-less c =
 -- src/moves.rt:71:5
 loop-again : tie.Need-loop-again Inv-loop μ-loop
 loop-again c =
-    let here = read (c .before .before .before .before .before .before .before .before .before .before .before .before .before .before) in
-    (
+    let here = read (c .before .before .before .before .before .before .before .before .before .before .before .before .before .before) in (
       current-kept (c .before .before .before .before .before),
       next-kept (c .before .before .before .before .before),
       λ accepting.
-        walk-at (sym (here .further))
-        (walk-more (automaton (c .before .before .before .before .before .before .before .before .before .before .before .before .before .before .before .before .before) accepting) (text (c .before .before .before .before .before .before .before .before .before .before .before .before .before .before .before .before .before)) (c .before .before .before .before .before .before .before .before .before .before .before .before .before .before .before .before .before .before .before .before .before .before .before .before .before .pre .0) (c .before .before .before .before .before .before .before .before .before .before .before .before .before .before .before .before .before .loop .inv .2 accepting)
-        (here .inside) (turned (c .before .before .before .before .before) accepting) (not-false _ (c .if1 .left))),
+          walk-at (sym (here .further))
+          (walk-more (automaton (c .before .before .before .before .before .before .before .before .before .before .before .before .before .before .before .before .before) accepting) (text (c .before .before .before .before .before .before .before .before .before .before .before .before .before .before .before .before .before)) (c .before .before .before .before .before .before .before .before .before .before .before .before .before .before .before .before .before .before .before .before .before .before .before .before .before .pre .0) (c .before .before .before .before .before .before .before .before .before .before .before .before .before .before .before .before .before .loop .inv .2 accepting)
+          (here .inside) (turned (c .before .before .before .before .before) accepting) (not-false _ (c .if1 .left))),
     )
 
 pub walk-spec : {M : Type 1} → statement M
