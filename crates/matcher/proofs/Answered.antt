@@ -1,17 +1,17 @@
 -- The answer that a walk's end gives is the verdict with live. Assumes nothing.
 use Prim.Native.Nat.{ℕ, _*_, _≤_}
 use native.Mathlib.Omega.{arith}
-use mathlib.Core.Path.{_≡_, refl, sym, ap, ap₂, _∙_}
+use mathlib.Core.Path.{_≡_, sym, ap, ap₂, _∙_}
 use mathlib.Core.Bool.{Bool, false, cond, _&&_}
 use mathlib.Core.List.{List}
-use mathlib.Core.Option.{Option, none, some}
+use mathlib.Core.Option.{none, some}
 use lib.ListN.{getD}
 use lib.Dec.{eqb}
 use Rattle.theory.specs.Language.{Word}
-use Rattle.theory.specs.Record.{Handed, Verdict, accepted, unfinished, wrong, words, some-below, count-below, start, reached, dead-at, accepts, verdict, live}
+use Rattle.theory.specs.Record.{Handed, accepted, unfinished, wrong, words, some-below, count-below, start, reached, dead-at, accepts, verdict, live}
 use Rattle.theory.specs.Judge.{given}
 use Rattle.theory.proofs.Below.{some-cong, count-cong, count-longer}
-use Rattle.theory.proofs.Reached.{Ends, after-below, start-below, live-dead, verdict-wrong, verdict-whole}
+use Rattle.theory.proofs.Reached.{after-below, start-below, live-dead, verdict-wrong, verdict-whole}
 use Rattle.matcher.specs.Bits.{bit}
 use Rattle.matcher.specs.Moves.{place-of, Ended}
 use Rattle.matcher.specs.declared.moves.Walked.{Walked}

@@ -8,7 +8,7 @@ use lib.Dec.{eqb}
 use borrow.Author.Tests.{eq-eqb, ne-eqb}
 use Rattle.theory.specs.Column.{zeros}
 use Rattle.theory.specs.Language.{Word}
-use Rattle.theory.specs.Refusal.{Refusal, refusal, success, columns-differ, automaton-malformed, work-short}
+use Rattle.theory.specs.Refusal.{refusal, success, columns-differ, automaton-malformed, work-short}
 use Rattle.theory.specs.Record.{Handed, start, well-formed, verdict, live, matcher-refusal}
 use Rattle.theory.specs.Judge.{Judgement, given, withheld, judgement}
 use Rattle.matcher.specs.Bits.{bit}

@@ -1,7 +1,7 @@
 -- What stands at a place of a record, read off the cursor's step. Assumes nothing.
 use Prim.Native.Nat.{ℕ, _+_, _≤_, _<_}
 use native.Mathlib.Omega.{arith}
-use mathlib.Core.Path.{_≡_, refl, sym, ap, _∙_}
+use mathlib.Core.Path.{_≡_, refl, ap}
 use mathlib.Core.Bool.{Bool, true, false, cond}
 use mathlib.Core.List.{List}
 use lib.ListN.{length, getD}
@@ -9,7 +9,6 @@ use lib.Dec.{ltb}
 use borrow.Author.Tests.{ltb-true, ltb-false}
 use Rattle.columns.specs.Cursor.{step-at}
 use Rattle.columns.specs.declared.Cursor.{Cursor}
-use Rattle.columns.specs.declared.Step.{Step}
 use Rattle.columns.specs.declared.Step.the-variants.{Byte, End}
 
 -- The place is inside, the byte is the record's, and the cursor goes one further.

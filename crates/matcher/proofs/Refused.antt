@@ -1,8 +1,8 @@
 -- The refusal of an automaton, in the order of its tests, and what holds of one that is not refused. Assumes nothing.
-use Prim.Native.Nat.{ℕ, _+_, _/_, _≤_, _<_}
+use Prim.Native.Nat.{ℕ, _≤_, _<_}
 use native.Mathlib.Omega.{arith}
 use mathlib.Core.Path.{_≡_, refl, sym, ap, ap₂, _∙_}
-use mathlib.Core.Bool.{Bool, true, false, cond, not, _&&_, _||_, false≢true}
+use mathlib.Core.Bool.{Bool, true, false, cond, not, _&&_, _||_, and-assoc, false≢true}
 use mathlib.Core.List.{List}
 use lib.ListN.{length, getD}
 use lib.Dec.{eqb, leb, ltb}
@@ -10,7 +10,6 @@ use borrow.Author.Tests.{ltb-true, ltb-false, leb-true, eqb-true, eqb-false, not
 use Rattle.theory.specs.Refusal.{Refusal, refusal, success, columns-differ, automaton-malformed, work-short}
 use Rattle.theory.specs.Record.{Handed, words, states-fit, arcs-fit, accepting-fits, ends-fit, well-formed, matcher-refusal}
 use Rattle.theory.proofs.Below.{all-at}
-use Rattle.matcher.specs.Moves.{Checked}
 use Rattle.matcher.proofs.Walk.{Sound}
 
 -- ---- The four tests
@@ -34,10 +33,6 @@ short h current next = ltb current (words (h .states)) || ltb next (words (h .st
 -- The number that the four answers give.
 abbrev pub number-of : Bool → Bool → Bool → Bool → ℕ
 number-of equal counts inside few = cond equal (cond (counts && inside) (cond few work-short 0) automaton-malformed) columns-differ
-
-and-assoc : (a b c : Bool) → ((a && b) && c) ≡ (a && (b && c))
-and-assoc true b c = refl
-and-assoc false b c = refl
 
 pub numbered : (h : Handed) (current next : ℕ) (equal counts inside few : Bool)
     → alike h ≡ equal → counts-fit h ≡ counts → values-fit h ≡ inside → short h current next ≡ few

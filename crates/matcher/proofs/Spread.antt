@@ -2,7 +2,7 @@
 use Prim.Native.Nat.{ℕ, _+_, _≤_}
 use native.Mathlib.Omega.{arith}
 use mathlib.Core.Path.{_≡_, refl, sym, ap, ap₂, _∙_, subst}
-use mathlib.Core.Bool.{Bool, true, false, _||_}
+use mathlib.Core.Bool.{Bool, true, false, _||_, or-false, or-assoc}
 use mathlib.Core.List.{List}
 use lib.ListN.{length, getD}
 use lib.Dec.{eqb}
@@ -42,14 +42,6 @@ module _ (from letter to : List ℕ) (s : States) (byte i : ℕ) where
 pub record Spread (from letter to : List ℕ) (s : States) (byte : ℕ) (next₀ next : List ℕ) (i : ℕ) : Type 0 where
   pub same-length : length next ≡ length next₀
   pub set : (t : ℕ) → bit next t ≡ (bit next₀ t || some-below i (leads from letter to s byte t))
-
-or-false : (a : Bool) → (a || false) ≡ a
-or-false true = refl
-or-false false = refl
-
-or-assoc : (a b c : Bool) → ((a || b) || c) ≡ (a || (b || c))
-or-assoc true b c = refl
-or-assoc false b c = refl
 
 module _ {from letter to : List ℕ} {s : States} {byte : ℕ} {next₀ : List ℕ} where
   pub spread-none : Spread from letter to s byte next₀ next₀ 0

@@ -9,12 +9,11 @@ use lib.Seq.{take-all}
 use lib.Dec.{ltb}
 use borrow.Author.Tests.{ltb-false}
 use Rattle.theory.specs.Language.{Word}
-use Rattle.theory.specs.Record.{Handed, States, words, some-below, count-below, start, leads, moved, after, reached, dead-at, live}
-use Rattle.theory.proofs.Below.{some-cong, some-longer, count-cong, count-longer}
-use Rattle.theory.proofs.Reached.{moved-cong, moved-below, after-take, after-below, start-below, dead-later, dead-here, dead-never, live-dead}
+use Rattle.theory.specs.Record.{Handed, States, words, some-below, start, leads, moved, after, reached, dead-at}
+use Rattle.theory.proofs.Below.{some-cong, some-longer}
+use Rattle.theory.proofs.Reached.{moved-cong, moved-below, after-take, after-below, start-below, dead-later, dead-here, dead-never}
 use Rattle.matcher.specs.Bits.{bit}
 use Rattle.matcher.specs.Moves.{Inside, Checked, Ready, Ended}
-use Rattle.matcher.specs.declared.moves.Walked.{Walked}
 use Rattle.matcher.specs.declared.moves.Walked.the-variants.{Whole, Dead}
 
 -- What is checked of the automaton h and of columns of these words.

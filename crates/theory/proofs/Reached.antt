@@ -1,10 +1,10 @@
 -- Laws of the states that a record reaches: one byte more, no state beyond the state count, the first dead byte, live after it, and the
 -- verdict.
 -- Assumes nothing.
-use Prim.Native.Nat.{ℕ, zero, suc, _+_, _≤_, _<_}
+use Prim.Native.Nat.{ℕ, suc, _+_, _≤_, _<_}
 use native.Mathlib.Numerals.{add-one}
 use native.Mathlib.Omega.{arith}
-use mathlib.Core.Path.{_≡_, refl, sym, ap, _∙_, subst}
+use mathlib.Core.Path.{_≡_, refl, sym, ap, _∙_}
 use mathlib.Core.Bool.{Bool, true, false, cond, false≢true}
 use mathlib.Core.List.{List, [], _∷_, _++_}
 use mathlib.Core.Option.{Option, none, some}
@@ -13,7 +13,7 @@ use lib.Seq.{take-suc, drop-cons}
 use lib.Dec.{eqb, ltb}
 use borrow.Author.Tests.{ne-eqb, ltb-true, ltb-false}
 use Rattle.theory.specs.Language.{Word}
-use Rattle.theory.specs.Record.{Handed, States, some-below, count-below, start, leads, moved, after, reached, dead-at, accepts, Verdict, accepted, unfinished, wrong, verdict, live}
+use Rattle.theory.specs.Record.{Handed, States, some-below, start, leads, moved, after, reached, dead-at, accepts, accepted, unfinished, wrong, verdict, live}
 use Rattle.theory.proofs.Below.{some-cong, some-none, some-at, count-none}
 
 -- ---- One byte

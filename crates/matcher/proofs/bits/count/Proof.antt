@@ -11,8 +11,6 @@ use Rattle.matcher.proofs.Words.{count-block}
 use Rattle.matcher.proofs.Passed.{at-end}
 use Rattle.matcher.proofs.bits.count.Statement.{statement}
 use Rattle.matcher.proofs.bits.count.Tie as tie
-use Rattle.matcher.proofs.bits.count.Reads as reads
-use Rattle.matcher.proofs.bits.count.Lts as lts
 
 abbrev Inv-loop : tie.InvT-loop
 Inv-loop n words ones₀ i₀ ones i = (i ≤ n) × (ones ≤ i * 64) × (ones ≡ count-below (i * 64) (bit words))
@@ -20,16 +18,13 @@ Inv-loop n words ones₀ i₀ ones i = (i ≤ n) × (ones ≤ i * 64) × (ones �
 abbrev μ-loop : tie.MeasureT-loop
 μ-loop n words ones₀ i₀ ones i = n - i
 
--- src/bits.rt:33:5
 loop-holds : tie.Need-loop-holds Inv-loop μ-loop
 unfolding count-below
 loop-holds c = search needs
 
--- src/bits.rt:34:33
 mul-ones : tie.Need-mul-ones Inv-loop μ-loop
 mul-ones c = search needs
 
--- src/bits.rt:34:33
 shared-slice-read-ones : tie.Need-shared-slice-read-ones Inv-loop μ-loop
 shared-slice-read-ones c = search needs
 
@@ -44,19 +39,15 @@ ones-few c = ones-le 64 _ (word-fits c)
 cast-ones : tie.Need-cast-ones Inv-loop μ-loop
 cast-ones c = omega (arith, ones-few c)
 
--- src/bits.rt:34:9
 add-ones : tie.Need-add-ones Inv-loop μ-loop
 add-ones c = omega (arith, ones-few c)
 
--- src/bits.rt:35:9
 add-i : tie.Need-add-i Inv-loop μ-loop
 add-i c = search needs
 
--- src/bits.rt:33:5
 loop-less : tie.Need-loop-less Inv-loop μ-loop
 loop-less c = search needs
 
--- src/bits.rt:33:5
 loop-again : tie.Need-loop-again Inv-loop μ-loop
 loop-again c = (
   omega arith,
@@ -65,7 +56,6 @@ loop-again c = (
       ∙ sym (count-block (c .before .before .before .args .words .now) (c .before .before .loop .i) (word-fits c)),
 )
 
--- src/bits.rt:27:1
 returns : tie.Need-returns Inv-loop μ-loop
 returns c =
     at-end (λ (i : ℕ). count-below (i * 64) (bit (c .before .before .args .words .now))) (c .before .loop .inv .2) (c .before .loop .inv .0) (c .loop-test .left)

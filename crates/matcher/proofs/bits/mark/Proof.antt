@@ -3,7 +3,6 @@ use borrow.Author.Needs.{needs}
 use Prim.Native.Nat.{ℕ, _*_, _/_, _%_, _^_, _<_}
 use native.Mathlib.Omega.{arith}
 use mathlib.Core.Path.{_≡_, ap, _∙_}
-use mathlib.Core.List.{List}
 use lib.ListN.{getD, set}
 use lib.Bits.{bitOr}
 use Rattle.matcher.specs.Bits.{bit}
@@ -12,37 +11,28 @@ use native.Mathlib.Nat.{one-mul, mod-eq-of-lt}
 use Rattle.matcher.proofs.Words.{bit-mark}
 use Rattle.matcher.proofs.bits.mark.Statement.{statement}
 use Rattle.matcher.proofs.bits.mark.Tie as tie
-use Rattle.matcher.proofs.bits.mark.Reads as reads
-use Rattle.matcher.proofs.bits.mark.Lts as lts
 
--- src/bits.rt:23:19
 mul-words : tie.Need-mul-words
 mul-words c = search needs
 
--- src/bits.rt:23:19
 slice-read-words : tie.Need-slice-read-words
 slice-read-words c = search needs
 
--- src/bits.rt:23:34
 shl-words : tie.Need-shl-words
 shl-words c = search needs
 
--- src/bits.rt:23:5
 mul-words-2 : tie.Need-mul-words-2
 mul-words-2 c = search needs
 
--- src/bits.rt:23:5
 slice-write-words : tie.Need-slice-write-words
 slice-write-words c = search needs
 
--- src/bits.rt:18:1
 same-length : tie.Need-same-length
 same-length c = search needs
 
 one-shifted : (k : ℕ) → k < 64 → 1 * 2 ^ k % 2 ^ 64 ≡ 2 ^ k
 one-shifted k l = ap (λ (n : ℕ). n % 2 ^ 64) (one-mul (2 ^ k)) ∙ mod-eq-of-lt (pow-lt l)
 
--- src/bits.rt:18:1
 returns : tie.Need-returns
 returns c = λ t.
     ap (λ (digit : ℕ). bit (set (c .before .args .words .now) (c .before .args .state / 64) (bitOr (getD (c .before .args .words .now) (c .before .args .state / 64) 0) digit)) t) (one-shifted (c .before .args .state % 64) (omega arith))

@@ -4,22 +4,16 @@ use mathlib.Core.Path.{refl}
 use Rattle.matcher.specs.Bits.{digit, bit}
 use Rattle.matcher.proofs.bits.marked.Statement.{statement}
 use Rattle.matcher.proofs.bits.marked.Tie as tie
-use Rattle.matcher.proofs.bits.marked.Reads as reads
-use Rattle.matcher.proofs.bits.marked.Lts as lts
 
--- src/bits.rt:15:6
 mul-result : tie.Need-mul-result
 mul-result c = search needs
 
--- src/bits.rt:15:6
 shared-slice-read-result : tie.Need-shared-slice-read-result
 shared-slice-read-result c = search needs
 
--- src/bits.rt:15:6
 shr-result : tie.Need-shr-result
 shr-result c = search needs
 
--- src/bits.rt:11:1
 returns : tie.Need-returns
 unfolding bit digit
 returns c = refl

@@ -7,29 +7,21 @@ use Rattle.theory.specs.Record.{Handed, handed, states-fit, arcs-fit, accepting
 use Rattle.matcher.proofs.Refused.{values-fit, numbered, alike-told, counts-told}
 use Rattle.matcher.proofs.checks.refusal.Statement.{statement}
 use Rattle.matcher.proofs.checks.refusal.Tie as tie
-use Rattle.matcher.proofs.checks.refusal.Reads as reads
-use Rattle.matcher.proofs.checks.refusal.Lts as lts
-use Rattle.matcher.proofs.checks.accepting_fits.Reads as accepting-fits-reads
-use Rattle.matcher.proofs.checks.ends_fit.Reads as ends-fit-reads
 
 abbrev automaton : tie.Start → Handed
 automaton c = handed (c .args .states) (c .args .accepting .now) (c .args .arcs) (c .args .from .now) (c .args .letter .now) (c .args .to .now)
 
--- src/checks.rt:59:9
 returns : tie.Need-returns
 returns c = numbered (automaton (c .before .before .before .before .before)) (c .before .before .before .before .before .args .current) (c .before .before .before .before .before .args .next) _ _ _ _ (not-true _ (c .if1 .taken)) refl refl refl
 
--- src/checks.rt:64:9
 returns-2 : tie.Need-returns-2
 unfolding states-fit arcs-fit
 returns-2 c = numbered (automaton (c .before .before .before .before .before .before)) (c .before .before .before .before .before .before .args .current) (c .before .before .before .before .before .before .args .next) _ _ _ _ (not-false _ (c .before .if1 .left)) (not-true _ (c .if2 .taken)) refl refl
 
--- src/checks.rt:66:10
 accepting-fits-requires : tie.Need-accepting-fits-requires
 unfolding states-fit arcs-fit
 accepting-fits-requires c κs = counts-told (automaton (c .before .before .before .before .before .before)) (not-false _ (c .if2 .left)) .accepting-long
 
--- src/checks.rt:66:46
 ends-fit-requires : tie.Need-ends-fit-requires
 unfolding states-fit arcs-fit
 ends-fit-requires c κs =
@@ -41,26 +33,22 @@ inside : (c : tie.After-ends-fit) → values-fit (automaton (c .before .before .
 unfolding accepting-fits ends-fit
 inside c = sym (ap₂ _&&_ (c .before .accepting-fits .ensures) (c .ends-fit .ensures))
 
--- src/checks.rt:67:9
 returns-3 : tie.Need-returns-3
 unfolding states-fit arcs-fit accepting-fits ends-fit
 returns-3 c =
     numbered (automaton (c .before .before .before .before .before .before .before .before .before)) (c .before .before .before .before .before .before .before .before .before .args .current) (c .before .before .before .before .before .before .before .before .before .args .next) _ _ _ _ (not-false _ (c .before .before .before .before .if1 .left)) (not-false _ (c .before .before .before .if2 .left)) (inside (c .before) ∙ not-true _ (c .if3 .taken)) refl
 
--- src/checks.rt:69:18
 add-words : tie.Need-add-words
 unfolding states-fit arcs-fit
 add-words c =
     let few = counts-told (automaton (c .before .before .before .before .before .before .before .before .before)) (not-false _ (c .before .before .before .if2 .left)) .states-few in
     omega arith
 
--- src/checks.rt:71:9
 returns-4 : tie.Need-returns-4
 unfolding states-fit arcs-fit accepting-fits ends-fit
 returns-4 c =
     numbered (automaton (c .before .before .before .before .before .before .before .before .before .before)) (c .before .before .before .before .before .before .before .before .before .before .args .current) (c .before .before .before .before .before .before .before .before .before .before .args .next) _ _ _ _ (not-false _ (c .before .before .before .before .before .if1 .left)) (not-false _ (c .before .before .before .before .if2 .left)) (inside (c .before .before) ∙ not-false _ (c .before .if3 .left)) (c .if4 .taken)
 
--- src/checks.rt:41:1
 returns-5 : tie.Need-returns-5
 unfolding states-fit arcs-fit accepting-fits ends-fit
 returns-5 c =

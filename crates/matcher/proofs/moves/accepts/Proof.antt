@@ -11,9 +11,6 @@ use Rattle.matcher.specs.Bits.{bit}
 use Rattle.matcher.proofs.Passed.{some-next, some-end}
 use Rattle.matcher.proofs.moves.accepts.Statement.{statement}
 use Rattle.matcher.proofs.moves.accepts.Tie as tie
-use Rattle.matcher.proofs.moves.accepts.Reads as reads
-use Rattle.matcher.proofs.moves.accepts.Lts as lts
-use Rattle.matcher.proofs.bits.marked.Reads as marked-reads
 
 abbrev Inv-loop : tie.InvT-loop
 Inv-loop states accepting current any₀ t₀ any t = (t ≤ states) × (any ≡ some-below t (λ k. bit current k && eqb (getD accepting k 0) 1))
@@ -21,28 +18,22 @@ Inv-loop states accepting current any₀ t₀ any t = (t ≤ states) × (any ≡
 abbrev μ-loop : tie.MeasureT-loop
 μ-loop states accepting current any₀ t₀ any t = states - t
 
--- src/moves.rt:91:5
 loop-holds : tie.Need-loop-holds Inv-loop μ-loop
 unfolding some-below
 loop-holds c = search needs
 
--- src/moves.rt:92:22
 marked-requires : tie.Need-marked-requires Inv-loop μ-loop
 marked-requires c κs = search needs
 
--- src/moves.rt:92:57
 shared-slice-read-any : tie.Need-shared-slice-read-any Inv-loop μ-loop
 shared-slice-read-any c = search needs
 
--- src/moves.rt:93:9
 add-t : tie.Need-add-t Inv-loop μ-loop
 add-t c = search needs
 
--- src/moves.rt:91:5
 loop-less : tie.Need-loop-less Inv-loop μ-loop
 loop-less c = search needs
 
--- src/moves.rt:91:5
 loop-again : tie.Need-loop-again Inv-loop μ-loop
 loop-again c = (
   omega arith,
@@ -50,7 +41,6 @@ loop-again c = (
       ∙ some-next _ _ (c .before .before .before .loop .inv .1),
 )
 
--- src/moves.rt:84:1
 returns : tie.Need-returns Inv-loop μ-loop
 returns c = some-end _ (c .before .loop .inv .1) (c .before .loop .inv .0) (c .loop-test .left)
 

@@ -10,10 +10,6 @@ use Rattle.matcher.specs.Bits.{bit}
 use Rattle.matcher.proofs.Spread.{Spread, spread-none, spread-other, spread-unset, spread-set, spread-end}
 use Rattle.matcher.proofs.moves.spread.Statement.{statement}
 use Rattle.matcher.proofs.moves.spread.Tie as tie
-use Rattle.matcher.proofs.moves.spread.Reads as reads
-use Rattle.matcher.proofs.moves.spread.Lts as lts
-use Rattle.matcher.proofs.bits.mark.Reads as mark-reads
-use Rattle.matcher.proofs.bits.marked.Reads as marked-reads
 
 abbrev Inv-loop : tie.InvT-loop
 Inv-loop arcs from letter to byte current next₀ i₀ next i = (i ≤ arcs) × Spread from letter to (bit current) byte next₀ next i
@@ -21,55 +17,42 @@ Inv-loop arcs from letter to byte current next₀ i₀ next i = (i ≤ arcs) × 
 abbrev μ-loop : tie.MeasureT-loop
 μ-loop arcs from letter to byte current next₀ i₀ next i = arcs - i
 
--- src/moves.rt:36:5
 loop-holds : tie.Need-loop-holds Inv-loop μ-loop
 loop-holds c = (omega arith, spread-none)
 
--- src/moves.rt:37:12
 shared-slice-read-if1 : tie.Need-shared-slice-read-if1 Inv-loop μ-loop
 shared-slice-read-if1 c = search needs
 
--- src/moves.rt:38:45
 mul-marked : tie.Need-mul-marked Inv-loop μ-loop
 mul-marked c = search needs
 
--- src/moves.rt:38:45
 shared-slice-read-marked : tie.Need-shared-slice-read-marked Inv-loop μ-loop
 shared-slice-read-marked c = search needs
 
--- src/moves.rt:38:45
 cast-marked : tie.Need-cast-marked Inv-loop μ-loop
 cast-marked c = omega (arith, c .shared-slice-known6 .given (c .before .before .before .before .loop .i))
 
--- src/moves.rt:38:16
 marked-requires : tie.Need-marked-requires Inv-loop μ-loop
 marked-requires c κs = c .before .before .before .before .before .before .before .before .before .before .pre .from-held (c .before .before .before .before .loop .i) (omega arith)
 
--- src/moves.rt:39:41
 mul-mark : tie.Need-mul-mark Inv-loop μ-loop
 mul-mark c = search needs
 
--- src/moves.rt:39:41
 shared-slice-read-mark : tie.Need-shared-slice-read-mark Inv-loop μ-loop
 shared-slice-read-mark c = search needs
 
--- src/moves.rt:39:41
 cast-mark : tie.Need-cast-mark Inv-loop μ-loop
 cast-mark c = omega (arith, c .shared-slice-known7 .given (c .before .before .before .before .before .before .before .before .loop .i))
 
--- src/moves.rt:39:17
 mark-requires : tie.Need-mark-requires Inv-loop μ-loop
 mark-requires c κs = omega (arith, c .before .before .before .before .before .before .before .before .before .before .before .before .before .before .pre .to-held (c .before .before .before .before .before .before .before .before .loop .i) (omega arith), c .before .before .before .before .before .before .before .before .loop .inv .1 .same-length)
 
--- src/moves.rt:42:9
 add-i : tie.Need-add-i Inv-loop μ-loop
 add-i c = search needs
 
--- src/moves.rt:36:5
 loop-less : tie.Need-loop-less Inv-loop μ-loop
 loop-less c = search needs
 
--- src/moves.rt:36:5
 loop-again : tie.Need-loop-again Inv-loop μ-loop
 loop-again c =
     let r = c .before .before .before .loop .inv .1 in (
@@ -81,11 +64,9 @@ loop-again c =
           (⊎-elim (λ w. spread-unset r (w .4) (sym (w .2 .ensures) ∙ w .3 .left)) (λ w. spread-other r (w .1) (w .0 .left))) (c .if1 .came),
     )
 
--- src/moves.rt:19:1
 same-length : tie.Need-same-length Inv-loop μ-loop
 same-length c = c .before .loop .inv .1 .same-length
 
--- src/moves.rt:19:1
 returns : tie.Need-returns Inv-loop μ-loop
 returns c = spread-end (c .before .loop .inv .1) (c .before .loop .inv .0) (c .loop-test .left) .set
 
