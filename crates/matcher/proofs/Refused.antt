@@ -34,11 +34,11 @@ short h current next = ltb current (words (h .states)) || ltb next (words (h .st
 abbrev pub number-of : Bool → Bool → Bool → Bool → ℕ
 number-of equal counts inside few = cond equal (cond (counts && inside) (cond few work-short 0) automaton-malformed) columns-differ
 
-pub numbered : (h : Handed) (current next : ℕ) (equal counts inside few : Bool)
+pub numbered : (h : Handed) (current next : ℕ) {equal counts inside few : Bool}
     → alike h ≡ equal → counts-fit h ≡ counts → values-fit h ≡ inside → short h current next ≡ few
     → number-of equal counts inside few ≡ (matcher-refusal h current next) .number
 unfolding matcher-refusal well-formed
-numbered h current next equal counts inside few e c v s =
+numbered h current next {equal} {counts} {inside} {few} e c v s =
     go equal (counts && inside) few
     ∙ sym (ap (λ (r : Refusal). r .number)
     (ap₃ (λ (x y z : Bool). cond (not x) (refusal columns-differ 0) (cond (not y) (refusal automaton-malformed 0) (cond z (refusal work-short 0) success))) e
@@ -110,7 +110,7 @@ pub not-refused : (h : Handed) (current next : List ℕ) → (matcher-refusal h 
 unfolding ends-fit
 not-refused h current next e =
     go (alike h) refl (counts-fit h) refl (values-fit h) refl (short h (length current) (length next)) refl
-    (numbered h (length current) (length next) _ _ _ _ refl refl refl refl ∙ e)
+    (numbered h (length current) (length next) refl refl refl refl ∙ e)
   where
     ends : values-fit h ≡ true → (i : ℕ) → i < h .arcs
         → (ltb (getD (h .from) i 0) (h .states) && ltb (getD (h .to) i 0) (h .states) && not (eqb (getD (h .letter) i 0) 0)) ≡ true

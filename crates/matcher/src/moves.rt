@@ -42,6 +42,7 @@ fn spread(
     }
 }
 
+// How a walk over a record ends: with its last byte, or at the first byte after which no state is reached.
 pub enum Walked {
     Whole,
     Dead { place: usize },

@@ -28,13 +28,14 @@ mul-ones c = search needs
 shared-slice-read-ones : tie.Need-shared-slice-read-ones Inv-loop μ-loop
 shared-slice-read-ones c = search needs
 
-word-fits : (c : tie.After-shared-slice-known Inv-loop μ-loop)
-    → getD (c .before .before .before .args .words .now) (c .before .before .loop .i) 0 < 2 ^ 64
+abbrev word : tie.After-shared-slice-known Inv-loop μ-loop → ℕ
+word c = getD (c .before .before .before .args .words .now) (c .before .before .loop .i) 0
+
+word-fits : (c : tie.After-shared-slice-known Inv-loop μ-loop) → word c < 2 ^ 64
 word-fits c = omega (arith, c .shared-slice-known .given (c .before .before .loop .i))
 
-ones-few : (c : tie.After-shared-slice-known Inv-loop μ-loop)
-    → ones-of (getD (c .before .before .before .args .words .now) (c .before .before .loop .i) 0) ≤ 64
-ones-few c = ones-le 64 _ (word-fits c)
+ones-few : (c : tie.After-shared-slice-known Inv-loop μ-loop) → ones-of (word c) ≤ 64
+ones-few c = ones-le 64 (word c) (word-fits c)
 
 cast-ones : tie.Need-cast-ones Inv-loop μ-loop
 cast-ones c = omega (arith, ones-few c)
@@ -52,8 +53,7 @@ loop-again : tie.Need-loop-again Inv-loop μ-loop
 loop-again c = (
   omega arith,
   omega (arith, ones-few c),
-  ap (λ (n : ℕ). n + ones-of (getD (c .before .before .before .args .words .now) (c .before .before .loop .i) 0)) (c .before .before .loop .inv .2)
-      ∙ sym (count-block (c .before .before .before .args .words .now) (c .before .before .loop .i) (word-fits c)),
+  ap (λ (n : ℕ). n + ones-of (word c)) (c .before .before .loop .inv .2) ∙ sym (count-block (c .before .before .before .args .words .now) (c .before .before .loop .i) (word-fits c)),
 )
 
 returns : tie.Need-returns Inv-loop μ-loop

@@ -35,8 +35,10 @@ one-shifted k l = ap (λ (n : ℕ). n % 2 ^ 64) (one-mul (2 ^ k)) ∙ mod-eq-of-
 
 returns : tie.Need-returns
 returns c = λ t.
-    ap (λ (digit : ℕ). bit (set (c .before .args .words .now) (c .before .args .state / 64) (bitOr (getD (c .before .args .words .now) (c .before .args .state / 64) 0) digit)) t) (one-shifted (c .before .args .state % 64) (omega arith))
-    ∙ bit-mark (c .before .args .words .now) (c .before .args .state) (c .before .pre) t
+    let words = c .before .args .words .now in
+    let state = c .before .args .state in
+    ap (λ (digit : ℕ). bit (set words (state / 64) (bitOr (getD words (state / 64) 0) digit)) t) (one-shifted (state % 64) (omega arith))
+    ∙ bit-mark words state (c .before .pre) t
 
 pub mark-spec : {M : Type 1} → statement M
 mark-spec =

@@ -35,11 +35,10 @@ loop-less : tie.Need-loop-less Inv-loop μ-loop
 loop-less c = search needs
 
 loop-again : tie.Need-loop-again Inv-loop μ-loop
-loop-again c = (
-  omega arith,
-  ap (λ (b : Bool). c .before .before .before .loop .any || (b && eqb (getD (c .before .before .before .before .before .before .args .accepting .now) (c .before .before .before .loop .t) 0) 1)) (c .before .marked .ensures)
-      ∙ some-next _ _ (c .before .before .before .loop .inv .1),
-)
+loop-again c =
+    let l = c .before .before .before in
+    let yes = eqb (getD (l .before .before .before .args .accepting .now) (l .loop .t) 0) 1 in
+    (omega arith, ap (λ (b : Bool). l .loop .any || (b && yes)) (c .before .marked .ensures) ∙ some-next _ _ (l .loop .inv .1))
 
 returns : tie.Need-returns Inv-loop μ-loop
 returns c = some-end _ (c .before .loop .inv .1) (c .before .loop .inv .0) (c .loop-test .left)

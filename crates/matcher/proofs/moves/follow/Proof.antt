@@ -5,6 +5,9 @@ use Rattle.matcher.proofs.Answered.{answered-wrong, answered-whole}
 use Rattle.matcher.proofs.moves.follow.Statement.{statement}
 use Rattle.matcher.proofs.moves.follow.Tie as tie
 
+abbrev entry : tie.After-walk → tie.Start
+entry c = c .before .before .before .before .before .before .before .before .before .before
+
 walk-requires : tie.Need-walk-requires
 walk-requires c κs = search needs
 
@@ -30,7 +33,9 @@ same-length-2 : tie.Need-same-length-2
 same-length-2 c = search needs
 
 returns : tie.Need-returns
-returns c = answered-wrong (c .before .before .before .before .before .before .before .before .before .before .before .before .before .before .before .before .before .pre .1 .0) (c .before .before .before .before .before .before .before .walk .ensures (c .before .before .before .before .before .before .before .before .before .before .before .before .before .before .before .before .before .args .accepting .now)) (c .before .place .given .1)
+returns c =
+    let walk = c .before .before .before .before .before .before .before in
+    answered-wrong (entry walk .pre .1 .0) (walk .walk .ensures (entry walk .args .accepting .now)) (c .before .place .given .1)
 
 same-length-3 : tie.Need-same-length-3
 same-length-3 c = search needs
@@ -40,7 +45,8 @@ same-length-4 c = search needs
 
 returns-2 : tie.Need-returns-2
 returns-2 c =
-    answered-whole (c .before .before .before .before .before .before .before .before .before .before .before .before .before .before .before .before .before .before .before .before .before .pre .1 .0) (c .before .before .before .before .before .before .before .before .before .before .before .walk .ensures (c .before .before .before .before .before .before .before .before .before .before .before .before .before .before .before .before .before .before .before .before .before .args .accepting .now)) (c .before .before .before .before .before .enum-told .given .1)
+    let walk = c .before .before .before .before .before .before .before .before .before .before .before in
+    answered-whole (entry walk .pre .1 .0) (walk .walk .ensures (entry walk .args .accepting .now)) (c .before .before .before .before .before .enum-told .given .1)
     (sym (c .if1 .taken) ∙ c .before .accepts .ensures) (c .before .before .before .count .ensures)
 
 same-length-5 : tie.Need-same-length-5
@@ -51,7 +57,8 @@ same-length-6 c = search needs
 
 returns-3 : tie.Need-returns-3
 returns-3 c =
-    answered-whole (c .before .before .before .before .before .before .before .before .before .before .before .before .before .before .before .before .before .before .before .before .before .pre .1 .0) (c .before .before .before .before .before .before .before .before .before .before .before .walk .ensures (c .before .before .before .before .before .before .before .before .before .before .before .before .before .before .before .before .before .before .before .before .before .args .accepting .now)) (c .before .before .before .before .before .enum-told .given .1)
+    let walk = c .before .before .before .before .before .before .before .before .before .before .before in
+    answered-whole (entry walk .pre .1 .0) (walk .walk .ensures (entry walk .args .accepting .now)) (c .before .before .before .before .before .enum-told .given .1)
     (sym (c .if1 .left) ∙ c .before .accepts .ensures) (c .before .before .before .count .ensures)
 
 pub follow-spec : {M : Type 1} → statement M

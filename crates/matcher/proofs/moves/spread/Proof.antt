@@ -17,6 +17,9 @@ Inv-loop arcs from letter to byte current next₀ i₀ next i = (i ≤ arcs) × 
 abbrev μ-loop : tie.MeasureT-loop
 μ-loop arcs from letter to byte current next₀ i₀ next i = arcs - i
 
+abbrev entry : tie.At-loop Inv-loop μ-loop → tie.Start Inv-loop μ-loop
+entry c = c .before .before .before .before .before .before
+
 loop-holds : tie.Need-loop-holds Inv-loop μ-loop
 loop-holds c = (omega arith, spread-none)
 
@@ -33,7 +36,9 @@ cast-marked : tie.Need-cast-marked Inv-loop μ-loop
 cast-marked c = omega (arith, c .shared-slice-known6 .given (c .before .before .before .before .loop .i))
 
 marked-requires : tie.Need-marked-requires Inv-loop μ-loop
-marked-requires c κs = c .before .before .before .before .before .before .before .before .before .before .pre .from-held (c .before .before .before .before .loop .i) (omega arith)
+marked-requires c κs =
+    let l = c .before .before .before .before in
+    entry l .pre .from-held (l .loop .i) (omega arith)
 
 mul-mark : tie.Need-mul-mark Inv-loop μ-loop
 mul-mark c = search needs
@@ -45,7 +50,9 @@ cast-mark : tie.Need-cast-mark Inv-loop μ-loop
 cast-mark c = omega (arith, c .shared-slice-known7 .given (c .before .before .before .before .before .before .before .before .loop .i))
 
 mark-requires : tie.Need-mark-requires Inv-loop μ-loop
-mark-requires c κs = omega (arith, c .before .before .before .before .before .before .before .before .before .before .before .before .before .before .pre .to-held (c .before .before .before .before .before .before .before .before .loop .i) (omega arith), c .before .before .before .before .before .before .before .before .loop .inv .1 .same-length)
+mark-requires c κs =
+    let l = c .before .before .before .before .before .before .before .before in
+    omega (arith, entry l .pre .to-held (l .loop .i) (omega arith), l .loop .inv .1 .same-length)
 
 add-i : tie.Need-add-i Inv-loop μ-loop
 add-i c = search needs
