@@ -1,4 +1,5 @@
 pub mod Below
+pub mod Reached
 pub mod Distinct
 pub mod Members
 pub mod Language
