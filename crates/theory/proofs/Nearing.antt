@@ -17,7 +17,7 @@ use Rattle.theory.proofs.Members.{to-flatMap}
 use Rattle.theory.proofs.States.{Begins, states-complete, states-no-repeats, states-only, states-derived, derived-states}
 use Rattle.theory.proofs.Bounds.{states-support}
 use Rattle.theory.proofs.Bounds.Letters.{derivative-letter, support-letters}
-use Rattle.theory.proofs.Meetings.{Meeting, meeting, by-letters, by-states, before, meetings, targets, so-far, so-far-once, so-far-begins, states-met, arcs-met, so-far-met, before-letter, ascending-split, by-letters-append, by-states-append}
+use Rattle.theory.proofs.Meetings.{Meeting, meeting, by-letters, by-states, before, meetings, to-arc, so-far, so-far-begins, states-met, arcs-met, so-far-met, before-letter, ascending-split, by-letters-append, by-states-append}
 
 -- `done` is where the meetings of e begin.
 pub record Starts (e : Expression) (done : List Meeting) : Type 0 where
@@ -42,11 +42,11 @@ module _ {e : Expression} {done : List Meeting} (s : Starts e done) where
 
   pub arcs-enough : length done ≤ length (arcs e)
   arcs-enough =
-      omega (arith, ap length (arcs-met e), length-map (meetings e) _, ap length (s .goes-on), length-append done (s .rest))
+      omega (arith, ap length (arcs-met e), length-map (meetings e) (to-arc (states e)), ap length (s .goes-on), length-append done (s .rest))
 
 -- One meeting more: the arc to it is needed.
-pub arcs-more : {e : Expression} {done : List Meeting} {m : Meeting} → Starts e (done ++ (m ∷ [])) → length done < length (arcs e)
-arcs-more {e} {done} {m} s = let l = arcs-enough s in omega (arith, length-append done (m ∷ []))
+pub arcs-more : {e : Expression} (done : List Meeting) (m : Meeting) → Starts e (done ++ (m ∷ [])) → length done < length (arcs e)
+arcs-more done m s = let l = arcs-enough s in omega (arith, length-append done (m ∷ []))
 
 -- ---- Where the meetings begin
 
