@@ -19,5 +19,6 @@ pub mod Sum
 pub mod Times
 pub mod FirstFault
 pub mod TableRefusal
+pub mod Used
 pub mod WellFormed
 pub mod Examples
