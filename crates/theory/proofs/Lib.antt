@@ -7,5 +7,6 @@ pub mod Support
 pub mod States
 pub mod Bounds
 pub mod Grammar
+pub mod Scan
 pub mod Rows
 pub mod Examples
