@@ -24,6 +24,13 @@ use Rattle.reader.specs.Found.{laid, Entry, leaf-of, Leaf, Sign-at, Clos
 use Rattle.reader.proofs.Leaf.{leaf-next, leaf-none, leaf-makes, leaf-entries}
 use Rattle.reader.proofs.Laid.{laid-append}
 
+-- The rows of a star and of a sign that are made next, behind the last row of their parts.
+abbrev pub star-row : ℕ → Row
+star-row made = record { kind = 6; left = made - 1; right = 0 }
+
+abbrev pub pair-row : Sign → ℕ → ℕ → Row
+pair-row g m n = record { kind = kind-of-sign g; left = m - 1; right = n - 1 }
+
 module _ (room : ℕ) (text : Text) where
   -- ---- The text's end, and a leaf
 
@@ -48,7 +55,7 @@ module _ (room : ℕ) (text : Text) where
       go : (o : Option Expression) → leaf-of (token (getD text (s .at) 0)) ≡ o → (r : Found) → Leaf o room (s .at) (s .made) cursor (s .columns) r t′
           → Answered room text s r t′
       go none e r h = subst (λ (f : Found). Answered room text s f t′) (sym h)
-        (λ fs d. at-broken room text (s .at) (s .made) (before fs) l (leaf-none fs (getD text (s .at) 0) e n (λ z. b .no-zero (sym d ∙ z))))
+          (λ fs d. at-broken room text (s .at) (s .made) (before fs) l (leaf-none fs (getD text (s .at) 0) e n (λ z. b .no-zero (sym d ∙ z))))
       go (some x) e (Value made′ cursor′) h =
           let next-at : cursor′ .at ≡ s .at + 1 = ap (λ (q : Cursor). q .at) (h .2) ∙ p in
           let one = leaf-entries (token (getD text (s .at) 0)) x e in
@@ -66,12 +73,9 @@ module _ (room : ℕ) (text : Text) where
             laid-out = h .3;
           }
       go (some x) e (Refused number place) h = λ fs d.
-        rw (h .1, h .2) (at-many room text (s .at) (s .made) (before fs) l (behind x fs) (leaf-next fs (token (getD text (s .at) 0)) x e) (omega (arith, b .shallow)) (leaf-makes (getD text (s .at) 0) x e) (h .0))
+          rw (h .1, h .2) (at-many room text (s .at) (s .made) (before fs) l (behind x fs) (leaf-next fs (token (getD text (s .at) 0)) x e) (omega (arith, b .shallow)) (leaf-makes (getD text (s .at) 0) x e) (h .0))
 
   -- ---- A star
-
-  abbrev star-row : ℕ → Row
-  star-row made = record { kind = 6; left = made - 1; right = 0 }
 
   star-laid : (base : ℕ) (x : Expression) (t : Table)
       → laid (base + entries x) (star-row (base + entries x) ∷ []) (laid base (rows base x) t) ≡ laid base (rows base (star x)) t
@@ -109,14 +113,11 @@ module _ (room : ℕ) (text : Text) where
   sign-makes concatenation = refl
   sign-makes shuffle = refl
 
-  pub pair-row : Sign → ℕ → ℕ → Row
-  pair-row g m n = record { kind = kind-of-sign g; left = m - 1; right = n - 1 }
-
   pair-laid : (base : ℕ) (g : Sign) (x y : Expression) (t : Table)
       → laid (base + entries x + entries y) (pair-row g (base + entries x) (base + entries x + entries y) ∷ [])
-        (laid (base + entries x) (rows (base + entries x) y) (laid base (rows base x) t))
+      (laid (base + entries x) (rows (base + entries x) y) (laid base (rows base x) t))
       ≡ laid base (rows base (binary g x y)) t
-  unfolding rows pair-row
+  unfolding rows
   pair-laid base g x y t =
       let lefts : base + entries x - 1 ≡ base + pred (entries x) = omega (arith, entries-positive x) in
       let rights : base + entries x + entries y - 1 ≡ base + entries x + pred (entries y) = omega (arith, entries-positive y) in

@@ -1,7 +1,7 @@
 -- The bytes that are an expression by themselves, and those that no expression begins with. Assumes nothing.
 use Prim.Native.Nat.{ℕ}
 use native.Mathlib.Omega.{arith}
-use mathlib.Core.Path.{_≡_, refl}
+use mathlib.Core.Path.{_≡_, refl, sym, ap, subst, _∙_}
 use mathlib.Core.Bool.{true, false}
 use mathlib.Core.List.{List, [], _∷_}
 use mathlib.Core.Option.{Option, none, some}
@@ -10,7 +10,7 @@ use lib.Dec.{T}
 use Rattle.theory.specs.Expression.{Expression, ε, letter, entries}
 use Rattle.theory.specs.Grammar.{byte-open, byte-0, byte-1, is-letter, makes-entry}
 use Rattle.theory.specs.Scan.{Token, opening, closing, starring, zero, unit, other, signing, naming, token, Frame, before, behind, next}
-use Rattle.theory.proofs.Grammar.Bytes.{Made-of, token-made-of, letter-not}
+use Rattle.theory.proofs.Grammar.Bytes.{Made-of, token-made-of, letter-not, token-letter}
 use Rattle.reader.specs.Found.{leaf-of}
 
 pub leaf-next : (fs : List Frame) (k : Token) (e : Expression) → leaf-of k ≡ some e → next (before fs) k ≡ some (behind e fs)
@@ -70,3 +70,27 @@ leaf-entries k e h = go k h
     go other h = cc
     go (signing s) h = cc
     go (naming a) h = cc
+
+-- ---- Which bytes they are
+
+pub leaf-unit : (b : ℕ) → b ≡ byte-1 → leaf-of (token b) ≡ some ε
+unfolding leaf-of token
+leaf-unit b e = rw e
+
+pub leaf-letter : (b : ℕ) → is-letter b ≡ true → leaf-of (token b) ≡ some (letter b)
+unfolding leaf-of
+leaf-letter b e = rw (token-letter b (subst T (sym e) tt))
+
+pub leaf-other : (b : ℕ) → (b ≡ byte-1 → ⊥) → is-letter b ≡ false → leaf-of (token b) ≡ none
+unfolding leaf-of
+leaf-other b n e = go (token b) (token-made-of b)
+  where
+    go : (k : Token) → Made-of k b → leaf-of k ≡ none
+    go opening m = refl
+    go closing m = refl
+    go starring m = refl
+    go zero m = refl
+    go unit m = absurd (n m)
+    go other m = refl
+    go (signing s) m = refl
+    go (naming a) m = absurd (subst T (ap is-letter (sym (m .0)) ∙ e) (m .1))

@@ -1,3 +1,5 @@
 pub mod Leaf
 pub mod Laid
+pub mod Stepped
 pub mod Answers
+pub mod Stars

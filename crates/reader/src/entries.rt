@@ -3,7 +3,6 @@
 use columns::Cursor;
 use columns::Row;
 use columns::Step;
-
 ghost use mathlib.Core.Path.{_≡_};
 ghost use mathlib.Core.List.{List, [], _∷_};
 ghost use Prim.Native.Nat.{_+_, _≤_, _<_};
@@ -58,7 +57,7 @@ pub fn entry(
 fn letter(byte: u8) -> bool
     ensures { λ r. ⌜ r ≡ is-letter byte ⌝ }
 {
-    (65 <= byte && byte <= 90) || (97 <= byte && byte <= 122)
+    ((65 <= byte) & (byte <= 90)) | ((97 <= byte) & (byte <= 122))
 }
 
 // `1` or a letter.
