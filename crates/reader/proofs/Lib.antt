@@ -2,4 +2,5 @@ pub mod Leaf
 pub mod Laid
 pub mod Stepped
 pub mod Answers
+pub mod Pair
 pub mod Stars

@@ -17,7 +17,6 @@ use Rattle.theory.specs.Table.{Table, Row, kind-of-sign}
 use Rattle.theory.specs.Grammar.{sign-byte, byte-close, byte-+, byte-dot, byte-&}
 use Rattle.reader.specs.declared.entries.Found.{Found}
 use Rattle.reader.specs.declared.entries.Found.the-variants.{Value, Refused}
-use Rattle.reader.specs.declared.entries.Signed.the-variants.{Kind}
 use Rattle.reader.specs.Found.{Entry, Close-at, Sign-at}
 
 pub record Stepped (text : List ℕ) (at byte : ℕ) (cursor : Cursor) : Type 0 where
@@ -51,7 +50,7 @@ close-at text room at made byte cursor w t (Value made′ cursor′) t′ s e h 
 close-at text room at made byte cursor w t (Refused number place) t′ s e h = (h .2, inr (h .1, s .inside, s .here ∙ e, h .0))
 
 pub sign-at : (text : List ℕ) (at byte : ℕ) (cursor : Cursor) (g : Sign) → Stepped text at byte cursor → byte ≡ sign-byte g
-    → Sign-at text at (Kind (kind-of-sign g) cursor)
+    → Sign-at text at (Value (kind-of-sign g) cursor)
 sign-at text at byte cursor g s e = (g, s .inside, s .here ∙ e, refl, s .next)
 
 pub no-sign : (byte : ℕ) → (byte ≡ byte-+ → ⊥) → (byte ≡ byte-dot → ⊥) → (byte ≡ byte-& → ⊥) → (g : Sign) → byte ≡ sign-byte g → ⊥

@@ -14,8 +14,6 @@ use Rattle.theory.specs.Scan.{Token, opening, closing, starring, zero, unit, ot
 use Rattle.columns.specs.declared.Cursor.{Cursor}
 use Rattle.reader.specs.declared.entries.Found.{Found}
 use Rattle.reader.specs.declared.entries.Found.the-variants.{Value, Refused}
-use Rattle.reader.specs.declared.entries.Signed.{Signed}
-use Rattle.reader.specs.declared.entries.Signed.the-variants.{Kind, Unsigned}
 
 -- The columns with rows ws from row `base` on.
 abbrev pub laid : ℕ → List Row → Table → Table
@@ -50,9 +48,9 @@ Leaf none room place made cursor t r t′ = r ≡ Refused not-grammar place
 Leaf (some e) room place made cursor t r t′ = Entry room place made cursor (rows made e) t r t′
 
 -- A sign at place `at`, with its entry's kind, or 13.
-abbrev pub Sign-at : Text → ℕ → Signed → Type 0
-Sign-at text at (Kind kind cursor) = (s : Sign) × (at < length text) × (getD text at 0 ≡ sign-byte s) × (kind ≡ kind-of-sign s) × (cursor .at ≡ at + 1)
-Sign-at text at (Unsigned number place) = (number ≡ not-grammar) × (place ≡ at) × ((s : Sign) → at < length text → getD text at 0 ≡ sign-byte s → ⊥)
+abbrev pub Sign-at : Text → ℕ → Found → Type 0
+Sign-at text at (Value kind cursor) = (s : Sign) × (at < length text) × (getD text at 0 ≡ sign-byte s) × (kind ≡ kind-of-sign s) × (cursor .at ≡ at + 1)
+Sign-at text at (Refused number place) = (number ≡ not-grammar) × (place ≡ at) × ((s : Sign) → at < length text → getD text at 0 ≡ sign-byte s → ⊥)
 
 -- `)` at place `at`, where the sign's entry is made: 13 where there is none, and 15 where the room is full.
 abbrev pub Close-at : Text → (room at made : ℕ) → Row → Table → Found → Table → Type 0

@@ -13,15 +13,11 @@ ghost use Rattle.theory.specs.Scan.{token};
 ghost use Rattle.columns.specs.Row.{as-row};
 ghost use Rattle.reader.specs.Found.{Room, Entry, Leaf, leaf-of, Sign-at, Close-at, Start, start, Behind, Answered, Unstarred};
 
-// 01: "the value with its cursor, or the refusal with its byte". The value is the last of the entries made.
+// 01: "the value with its cursor, or the refusal with its byte". The value is the number of entries made, the expression's own the
+// last of them, or the kind of the entry that a sign will make.
 pub enum Found {
-    Value { made: usize, cursor: Cursor },
+    Value { value: usize, cursor: Cursor },
     Refused { number: u8, place: usize },
-}
-
-pub enum Signed {
-    Kind { kind: u8, cursor: Cursor },
-    Unsigned { number: u8, place: usize },
 }
 
 // An entry at byte `place`, behind which the cursor stands.
@@ -45,7 +41,7 @@ pub fn entry(
         left[made] = row.left;
         right[made] = row.right;
         Found::Value {
-            made: made + 1,
+            value: made + 1,
             cursor,
         }
     } else {
@@ -96,18 +92,18 @@ pub fn leaf(
 }
 
 // 01: "with sign `+`, `.` or `&`".
-pub fn sign(text: &[u8], cursor: Cursor) -> Signed
+pub fn sign(text: &[u8], cursor: Cursor) -> Found
     ensures { λ r. ⌜ Sign-at (now (text .entry)) (cursor .at) r ⌝ }
 {
     let place = cursor.at;
     let Step::Byte(byte, cursor) = cursor.step(text) else {
-        return Signed::Unsigned { number: 13, place };
+        return Found::Refused { number: 13, place };
     };
     match byte {
-        b'+' => Signed::Kind { kind: 3, cursor },
-        b'.' => Signed::Kind { kind: 4, cursor },
-        b'&' => Signed::Kind { kind: 5, cursor },
-        _ => Signed::Unsigned { number: 13, place },
+        b'+' => Found::Value { value: 3, cursor },
+        b'.' => Found::Value { value: 4, cursor },
+        b'&' => Found::Value { value: 5, cursor },
+        _ => Found::Refused { number: 13, place },
     }
 }
 
@@ -159,10 +155,10 @@ pub fn stars(
     loop {
         let place = cursor.at;
         let Step::Byte(byte, behind) = cursor.step(text) else {
-            return Found::Value { made, cursor };
+            return Found::Value { value: made, cursor };
         };
         if byte != b'*' {
-            return Found::Value { made, cursor };
+            return Found::Value { value: made, cursor };
         }
         let row = Row {
             kind: 6,
@@ -171,7 +167,7 @@ pub fn stars(
         };
         let star = entry(place, behind, made, room, row, kind, left, right);
         let Found::Value {
-            made: more,
+            value: more,
             cursor: next,
         } = star
         else {

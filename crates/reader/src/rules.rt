@@ -1,1 +1,86 @@
 // 01: "Expression and operand are read by rules that call each other, as the grammar does."
+
+use columns::Cursor;
+use columns::Row;
+use columns::Step;
+use super::entries::Found;
+
+ghost use mathlib.Core.Path.{_≡_};
+ghost use Prim.Native.Nat.{_+_, _≤_, _<_};
+ghost use lib.ListN.{length};
+ghost use Rattle.theory.specs.Table.{table};
+ghost use Rattle.reader.specs.Found.{start, May-begin, Answered, Unstarred};
+
+// An operand and the stars behind it.
+pub fn expression(
+    text: &[u8],
+    cursor: Cursor,
+    depth: usize,
+    made: usize,
+    room: usize,
+    kind: &mut [u8],
+    left: &mut [u16],
+    right: &mut [u16],
+) -> Found
+    requires { ⌜ May-begin room (now text) (start depth (cursor .at) made (table (now kind) (now left) (now right))) ⌝ }
+    ensures { λ r.
+        ⌜ Answered room (now (text .entry)) (start depth (cursor .at) made (table (now (kind .entry)) (now (left .entry)) (now (right .entry)))) r
+        (table (now (kind .exit)) (now (left .exit)) (now (right .exit)))
+        × Unstarred (now (text .entry)) r ⌝ }
+{
+    let first = operand(text, cursor, depth, made, room, kind, left, right);
+    let Found::Value { value: made, cursor } = first else {
+        return first;
+    };
+    super::entries::stars(text, cursor, made, room, kind, left, right)
+}
+
+// `1`, a letter, or two expressions with their sign in parentheses.
+fn operand(
+    text: &[u8],
+    cursor: Cursor,
+    depth: usize,
+    made: usize,
+    room: usize,
+    kind: &mut [u8],
+    left: &mut [u16],
+    right: &mut [u16],
+) -> Found
+    requires { ⌜ May-begin room (now text) (start depth (cursor .at) made (table (now kind) (now left) (now right))) ⌝ }
+    ensures { λ r.
+        ⌜ Answered room (now (text .entry)) (start depth (cursor .at) made (table (now (kind .entry)) (now (left .entry)) (now (right .entry)))) r
+        (table (now (kind .exit)) (now (left .exit)) (now (right .exit))) ⌝ }
+{
+    let place = cursor.at;
+    let Step::Byte(byte, cursor) = cursor.step(text) else {
+        return Found::Refused { number: 13, place };
+    };
+    if byte != b'(' {
+        return super::entries::leaf(byte, place, cursor, made, room, kind, left, right);
+    }
+    if depth == 64 {
+        return Found::Refused { number: 14, place };
+    }
+    let x = expression(text, cursor, depth + 1, made, room, kind, left, right);
+    let Found::Value { value: first, cursor } = x else {
+        return x;
+    };
+    let sign = super::entries::sign(text, cursor);
+    let Found::Value { value: kind_of_sign, cursor } = sign else {
+        return sign;
+    };
+    let y = expression(text, cursor, depth + 1, first, room, kind, left, right);
+    let Found::Value {
+        value: second,
+        cursor,
+    } = y
+    else {
+        return y;
+    };
+    let row = Row {
+        kind: kind_of_sign as u8,
+        left: (first - 1) as u16,
+        right: (second - 1) as u16,
+    };
+    super::entries::close(text, cursor, second, room, row, kind, left, right)
+}
