@@ -39,9 +39,9 @@ module _ (room : ℕ) (text : Text) where
     | inr q ↦ at-broken room text at made c q (h q)
   ]
 
-  pub end-answers : (s : Start) (t′ : Table) → length text ≤ s .at → Answered room text s (Refused not-grammar (s .at)) t′
+  pub end-answers : (s : Start) → length text ≤ s .at → Answered room text s (Refused not-grammar (s .at)) (s .columns)
   unfolding finish
-  end-answers s t′ l fs d = at-end room text (s .at) (s .made) (before fs) l
+  end-answers s l fs d = at-end room text (s .at) (s .made) (before fs) l
 
   pub leaf-answers : (s : Start) → May-begin room text s → (byte : ℕ) (cursor : Cursor) → Stepped text (s .at) byte cursor → (byte ≡ byte-open → ⊥)
       → (r : Found) (t′ : Table) → Leaf (leaf-of (token byte)) room (s .at) (s .made) cursor (s .columns) r t′ → Answered room text s r t′

@@ -8,6 +8,7 @@ use mathlib.Core.Logic.{_⊎_, inl, inr}
 use mathlib.Core.Bool.{false}
 use mathlib.Core.List.{List, [], _∷_, _++_}
 use lib.ListN.{length, getD, length-append}
+use lib.Dec.{lit≤}
 use Rattle.theory.specs.Expression.{Expression, Sign, union, concatenation, shuffle, binary, entries}
 use Rattle.theory.specs.Refusal.{refusal, not-grammar, too-deep, too-many-entries}
 use Rattle.theory.specs.Table.{Table, Row, kind-of-sign}
@@ -38,9 +39,9 @@ pub record Inside (room : ℕ) (text : Text) (s : Start) (at : ℕ) : Type 0 whe
 
 module _ {room : ℕ} {text : Text} {s : Start} (b : May-begin room text s) {byte : ℕ} {cursor : Cursor} (i : Stepped text (s .at) byte cursor)
     (o : byte ≡ byte-open) where
-  pub deep-answers : 64 ≤ s .depth → (t′ : Table) → Answered room text s (Refused too-deep (s .at)) t′
+  pub deep-answers : 64 ≤ s .depth → Answered room text s (Refused too-deep (s .at)) (s .columns)
   unfolding open-at
-  deep-answers d t′ fs e =
+  deep-answers d fs e =
       at-deep room text (s .at) (s .made) (before fs) (i .inside) (before (opened ∷ fs)) (before-opening fs (getD text (s .at) 0) (i .here ∙ o)) (omega arith)
 
   pub inside : s .depth < 64 → Inside room text s (cursor .at)
@@ -152,6 +153,15 @@ module _ {room : ℕ} {text : Text} {s : Start} {at made : ℕ} {t : Table} (x :
         fits = x .fits;
         laid-out = x .laid-out;
       }
+
+pub signed-kind : {room : ℕ} {text : Text} {s : Start} {kind at made : ℕ} {t : Table} → Signed room text s kind at made t → kind ≤ 5
+unfolding kind-of-sign
+signed-kind x = rw (x .kind-is) (small (x .sign))
+  where
+    small : (g : Sign) → kind-of-sign g ≤ 5
+    small union = lit≤ tt
+    small concatenation = lit≤ tt
+    small shuffle = lit≤ tt
 
 -- ---- The right expression and `)`
 

@@ -155,10 +155,16 @@ pub fn stars(
     loop {
         let place = cursor.at;
         let Step::Byte(byte, behind) = cursor.step(text) else {
-            return Found::Value { value: made, cursor };
+            return Found::Value {
+                value: made,
+                cursor,
+            };
         };
         if byte != b'*' {
-            return Found::Value { value: made, cursor };
+            return Found::Value {
+                value: made,
+                cursor,
+            };
         }
         let row = Row {
             kind: 6,

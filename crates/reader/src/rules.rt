@@ -1,10 +1,9 @@
 // 01: "Expression and operand are read by rules that call each other, as the grammar does."
 
+use super::entries::Found;
 use columns::Cursor;
 use columns::Row;
 use columns::Step;
-use super::entries::Found;
-
 ghost use mathlib.Core.Path.{_≡_};
 ghost use Prim.Native.Nat.{_+_, _≤_, _<_};
 ghost use lib.ListN.{length};
@@ -29,7 +28,11 @@ pub fn expression(
         × Unstarred (now (text .entry)) r ⌝ }
 {
     let first = operand(text, cursor, depth, made, room, kind, left, right);
-    let Found::Value { value: made, cursor } = first else {
+    let Found::Value {
+        value: made,
+        cursor,
+    } = first
+    else {
         return first;
     };
     super::entries::stars(text, cursor, made, room, kind, left, right)
@@ -62,11 +65,19 @@ fn operand(
         return Found::Refused { number: 14, place };
     }
     let x = expression(text, cursor, depth + 1, made, room, kind, left, right);
-    let Found::Value { value: first, cursor } = x else {
+    let Found::Value {
+        value: first,
+        cursor,
+    } = x
+    else {
         return x;
     };
     let sign = super::entries::sign(text, cursor);
-    let Found::Value { value: kind_of_sign, cursor } = sign else {
+    let Found::Value {
+        value: kind_of_sign,
+        cursor,
+    } = sign
+    else {
         return sign;
     };
     let y = expression(text, cursor, depth + 1, first, room, kind, left, right);
