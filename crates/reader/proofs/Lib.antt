@@ -4,3 +4,4 @@ pub mod Stepped
 pub mod Answers
 pub mod Pair
 pub mod Stars
+pub mod Whole

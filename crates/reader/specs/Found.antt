@@ -105,25 +105,3 @@ Answered room text s (Refused number place) t′ =
 abbrev pub Unstarred : Text → Found → Type 0
 Unstarred text (Value made cursor) = getD text (cursor .at) 0 ≡ byte-* → ⊥
 Unstarred text (Refused number place) = Unit {0}
-
--- ---- The whole text
-
--- The text's beginning: `0` or an expression, behind which the grammar allows no other byte.
-pub record Beginning (room : ℕ) (text : Text) (at made : ℕ) (t t′ : Table) : Type 0 where
-  pub expression : Expression
-  pub stand : Stand
-  pub reads : scan room text ≡ scan-at room text at made stand
-  pub whole : finish at stand ≡ read expression
-  pub ended : at < length text → next stand (token (getD text at 0)) ≡ none
-  pub within : at ≤ length text
-  pub counted : made ≡ entries expression
-  pub laid-out : t′ ≡ laid 0 (rows 0 expression) t
-
-abbrev pub Begun : (room : ℕ) → Text → Table → Found → Table → Type 0
-Begun room text t (Value made cursor) t′ = Beginning room text (cursor .at) made t t′
-Begun room text t (Refused number place) t′ = scan room text ≡ refused (refusal number place)
-
--- The reading of a text within the limits of 1 and 12.
-abbrev pub Whole-read : (room : ℕ) → Text → Table → Found → Table → Type 0
-Whole-read room text t (Value made cursor) t′ = (e : Expression) × (scan room text ≡ read e) × (made ≡ entries e) × (t′ ≡ laid 0 (rows 0 e) t)
-Whole-read room text t (Refused number place) t′ = scan room text ≡ refused (refusal number place)

@@ -8,7 +8,8 @@ ghost use mathlib.Core.Path.{_≡_};
 ghost use Prim.Native.Nat.{_+_, _≤_, _<_};
 ghost use lib.ListN.{length};
 ghost use Rattle.theory.specs.Table.{table};
-ghost use Rattle.reader.specs.Found.{start, May-begin, Answered, Unstarred};
+ghost use Rattle.reader.specs.Found.{Room, start, May-begin, Answered, Unstarred};
+ghost use Rattle.reader.specs.Whole.{Begun, Whole-read};
 
 // An operand and the stars behind it.
 pub fn expression(
@@ -94,4 +95,61 @@ fn operand(
         right: (second - 1) as u16,
     };
     super::entries::close(text, cursor, second, room, row, kind, left, right)
+}
+
+// 01: "`0` alone is the empty language." Any other text begins with an expression.
+fn beginning(
+    text: &[u8],
+    room: usize,
+    kind: &mut [u8],
+    left: &mut [u16],
+    right: &mut [u16],
+) -> Found
+    requires { ⌜ Room room (table (now kind) (now left) (now right)) ⌝ }
+    ensures { λ r.
+        ⌜ Begun room (now (text .entry)) (table (now (kind .entry)) (now (left .entry)) (now (right .entry))) r
+        (table (now (kind .exit)) (now (left .exit)) (now (right .exit))) ⌝ }
+{
+    let start = Cursor::start();
+    let Step::Byte(byte, cursor) = start.step(text) else {
+        return Found::Refused {
+            number: 13,
+            place: 0,
+        };
+    };
+    if byte == b'0' {
+        let row = Row {
+            kind: 0,
+            left: 0,
+            right: 0,
+        };
+        return super::entries::entry(0, cursor, 0, room, row, kind, left, right);
+    }
+    expression(text, start, 0, 0, room, kind, left, right)
+}
+
+// A beginning, and the end of the text behind it.
+pub fn whole(
+    text: &[u8],
+    room: usize,
+    kind: &mut [u8],
+    left: &mut [u16],
+    right: &mut [u16],
+) -> Found
+    requires { ⌜ Room room (table (now kind) (now left) (now right)) ⌝ }
+    ensures { λ r.
+        ⌜ Whole-read room (now (text .entry)) (table (now (kind .entry)) (now (left .entry)) (now (right .entry))) r
+        (table (now (kind .exit)) (now (left .exit)) (now (right .exit))) ⌝ }
+{
+    let found = beginning(text, room, kind, left, right);
+    let Found::Value { value: _, cursor } = found else {
+        return found;
+    };
+    let Step::End = cursor.step(text) else {
+        return Found::Refused {
+            number: 13,
+            place: cursor.at,
+        };
+    };
+    found
 }
