@@ -1,25 +1,24 @@
 -- What the reader answers at the text's end, at a byte that is an expression by itself, and at a star.
 -- Leans on the steps of the scan and on the laws of rows that are laid into columns; knows nothing of the code.
-use Prim.Native.Nat.{ℕ, suc, _+_, _-_, _≤_, _<_, pred}
-use native.Mathlib.Nat.{add-assoc, eq-or-lt-of-le}
+use Prim.Native.Nat.{ℕ, _+_, _-_, _≤_, _<_, pred}
+use native.Mathlib.Nat.{eq-or-lt-of-le}
 use native.Mathlib.Omega.{arith}
 use mathlib.Core.Path.{_≡_, refl, sym, ap, _∙_, subst}
-use mathlib.Core.Logic.{_⊎_, inl, inr}
-use mathlib.Core.Bool.{true, false}
-use mathlib.Core.List.{List, [], _∷_, _++_, append-assoc}
+use mathlib.Core.Logic.{inl, inr}
+use mathlib.Core.List.{[], _∷_}
 use mathlib.Core.Option.{Option, none, some}
-use lib.ListN.{length, drop, getD, length-append}
-use Rattle.theory.specs.Expression.{Expression, Sign, union, concatenation, shuffle, star, binary, entries}
-use Rattle.theory.specs.Refusal.{refusal, not-grammar, too-deep, too-many-entries}
-use Rattle.theory.specs.Table.{Table, Row, kind-of-sign}
-use Rattle.theory.specs.Grammar.{Text, refused, rows, sign-byte, byte-open, byte-close, byte-*, makes-entry}
-use Rattle.theory.specs.Scan.{token, Frame, opened, signed, Stand, before, behind, next, open-at, finish, scan-from}
-use Rattle.theory.proofs.Scan.{at-end, at-broken, at-deep, at-many, at-entry, at-mark, before-opening, behind-star, behind-sign, behind-close, behind-unsigned, behind-unclosed}
+use lib.ListN.{length, getD}
+use Rattle.theory.specs.Expression.{Expression, star, entries}
+use Rattle.theory.specs.Refusal.{refusal, not-grammar}
+use Rattle.theory.specs.Table.{Table, Row}
+use Rattle.theory.specs.Grammar.{Text, refused, rows, byte-open, byte-*, makes-entry}
+use Rattle.theory.specs.Scan.{token, Stand, before, behind, next, open-at, finish}
+use Rattle.theory.proofs.Scan.{at-end, at-broken, at-many, at-entry, behind-star}
 use Rattle.theory.proofs.Rows.Trees.{rows-length, entries-positive}
 use Rattle.columns.specs.declared.Cursor.{Cursor}
 use Rattle.reader.specs.declared.entries.Found.{Found}
 use Rattle.reader.specs.declared.entries.Found.the-variants.{Value, Refused}
-use Rattle.reader.specs.Found.{laid, Entry, leaf-of, Leaf, Sign-at, Close-at, scan-at, Start, start, May-begin, Behind, Answered, Unstarred}
+use Rattle.reader.specs.Found.{laid, Entry, leaf-of, Leaf, scan-at, Start, May-begin, Behind, Answered}
 use Rattle.reader.proofs.Leaf.{leaf-next, leaf-none, leaf-makes, leaf-entries}
 use Rattle.reader.proofs.Laid.{laid-append}
 use Rattle.reader.proofs.Stepped.{Stepped}

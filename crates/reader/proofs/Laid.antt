@@ -2,13 +2,12 @@
 use Prim.Native.Nat.{ℕ, zero, suc, _+_, _-_, _≤_}
 use native.Mathlib.Nat.{add-zero, add-suc, suc-add, zero-add, zero-sub}
 use native.Mathlib.Numerals.{unary-clauses}
-use native.Mathlib.Omega.{arith}
-use mathlib.Core.Path.{_≡_, refl, sym, ap, _∙_}
+use mathlib.Core.Path.{_≡_, sym, ap, _∙_}
 use mathlib.Core.List.{List, [], _∷_, _++_, map, map-append}
-use lib.ListN.{length, set, take, drop, replicate, length-map, length-replicate}
-use lib.Seq.{sets, sets-eq, length-sets}
+use lib.ListN.{length, set, drop, length-map, length-replicate}
+use lib.Seq.{sets, sets-eq}
 use Rattle.theory.specs.Column.{zeros, filled}
-use Rattle.theory.specs.Table.{Table, table, Row}
+use Rattle.theory.specs.Table.{Table, Row}
 use Rattle.reader.specs.Found.{laid}
 
 sets-append : (l : List ℕ) (i : ℕ) (xs ys : List ℕ) → sets l i (xs ++ ys) ≡ sets (sets l i xs) (i + length xs) ys

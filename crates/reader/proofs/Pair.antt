@@ -19,7 +19,7 @@ use Rattle.theory.proofs.Rows.Trees.{rows-length, entries-positive}
 use Rattle.columns.specs.declared.Cursor.{Cursor}
 use Rattle.reader.specs.declared.entries.Found.{Found}
 use Rattle.reader.specs.declared.entries.Found.the-variants.{Value, Refused}
-use Rattle.reader.specs.Found.{laid, Sign-at, Close-at, scan-at, Start, start, May-begin, Behind, Answered, Unstarred}
+use Rattle.reader.specs.Found.{laid, Sign-at, Close-at, scan-at, Start, start, May-begin, Behind, Answered}
 use Rattle.reader.proofs.Laid.{laid-append}
 use Rattle.reader.proofs.Stepped.{Stepped}
 use Rattle.reader.proofs.Answers.{stuck-here}

@@ -1,14 +1,14 @@
 -- An expression followed by stars: what holds as each is read. Knows nothing of the code.
-use Prim.Native.Nat.{ℕ, _+_, _-_, _≤_, _<_}
+use Prim.Native.Nat.{ℕ, _-_, _≤_, _<_}
 use native.Mathlib.Omega.{arith}
 use mathlib.Core.Path.{_≡_, refl, ap, _∙_}
-use mathlib.Core.List.{List, [], _∷_}
-use lib.ListN.{length, getD, length-set}
-use Rattle.theory.specs.Table.{Table, table}
+use mathlib.Core.List.{[], _∷_}
+use lib.ListN.{length, length-set}
+use Rattle.theory.specs.Table.{Table}
 use Rattle.theory.specs.Grammar.{Text, byte-*}
 use Rattle.columns.specs.declared.Cursor.{Cursor}
 use Rattle.reader.specs.declared.entries.Found.{Found}
-use Rattle.reader.specs.declared.entries.Found.the-variants.{Value, Refused}
+use Rattle.reader.specs.declared.entries.Found.the-variants.{Value}
 use Rattle.reader.specs.Found.{Entry, Start, Behind, Answered}
 use Rattle.reader.proofs.Stepped.{Stepped}
 use Rattle.reader.proofs.Answers.{star-row, star-answers}
@@ -21,9 +21,6 @@ pub record Starred (room : ℕ) (text : Text) (at₀ made₀ : ℕ) (t₀ : Tabl
   pub kind : length (t .kind) ≡ length (t₀ .kind)
   pub left : length (t .left) ≡ length (t₀ .left)
   pub right : length (t .right) ≡ length (t₀ .right)
-
-pub starred-none : (room : ℕ) (text : Text) (at made : ℕ) (t : Table) → 0 < made → made ≤ room → Starred room text at made t at made t
-starred-none room text at made t p f = record { onward = λ s x. x; positive = p; fits = f; kind = refl; left = refl; right = refl }
 
 module _ (room : ℕ) (text : Text) (at₀ made₀ : ℕ) (t₀ : Table) (at made byte : ℕ) (t : Table) (x : Starred room text at₀ made₀ t₀ at made t)
     (cursor : Cursor) (h : Stepped text at byte cursor) (e : byte ≡ byte-*) where

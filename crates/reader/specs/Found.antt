@@ -9,8 +9,8 @@ use lib.Seq.{sets}
 use Rattle.theory.specs.Expression.{Expression, Sign, ε, letter, entries}
 use Rattle.theory.specs.Refusal.{refusal, not-grammar, too-many-entries}
 use Rattle.theory.specs.Table.{Table, table, Row, kind-of-sign}
-use Rattle.theory.specs.Grammar.{Text, Reading, read, refused, rows, sign-byte, byte-0, byte-close, byte-*}
-use Rattle.theory.specs.Scan.{Token, opening, closing, starring, zero, unit, other, signing, naming, token, Frame, Stand, before, behind, next, finish, scan, scan-from}
+use Rattle.theory.specs.Grammar.{Text, Reading, refused, rows, sign-byte, byte-0, byte-close, byte-*}
+use Rattle.theory.specs.Scan.{Token, opening, closing, starring, zero, unit, other, signing, naming, Frame, Stand, before, behind, scan-from}
 use Rattle.columns.specs.declared.Cursor.{Cursor}
 use Rattle.reader.specs.declared.entries.Found.{Found}
 use Rattle.reader.specs.declared.entries.Found.the-variants.{Value, Refused}

@@ -1,5 +1,5 @@
 -- What is owed of a whole text: its beginning, its reading within the limits of 1 and 12, and the columns.
-use Prim.Native.Nat.{ℕ, _≤_, _<_}
+use Prim.Native.Nat.{ℕ, _<_}
 use mathlib.Core.Path.{_≡_}
 use mathlib.Core.Option.{none}
 use lib.ListN.{length, getD}

@@ -4,14 +4,13 @@ use columns::Cursor;
 use columns::Row;
 use columns::Step;
 ghost use mathlib.Core.Path.{_≡_};
-ghost use mathlib.Core.List.{List, [], _∷_};
-ghost use Prim.Native.Nat.{_+_, _≤_, _<_};
-ghost use lib.ListN.{length};
+ghost use mathlib.Core.List.{[], _∷_};
+ghost use Prim.Native.Nat.{_≤_, _<_};
 ghost use Rattle.theory.specs.Table.{table};
 ghost use Rattle.theory.specs.Grammar.{is-letter};
 ghost use Rattle.theory.specs.Scan.{token};
 ghost use Rattle.columns.specs.Row.{as-row};
-ghost use Rattle.reader.specs.Found.{Room, Entry, Leaf, leaf-of, Sign-at, Close-at, Start, start, Behind, Answered, Unstarred};
+ghost use Rattle.reader.specs.Found.{Room, Entry, Leaf, leaf-of, Sign-at, Close-at, Start, Behind, Answered, Unstarred};
 
 // 01: "the value with its cursor, or the refusal with its byte". The value is the number of entries made, the expression's own the
 // last of them, or the kind of the entry that a sign will make.

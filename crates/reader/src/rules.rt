@@ -1,12 +1,10 @@
 // 01: "Expression and operand are read by rules that call each other, as the grammar does."
 
+use super::entries;
 use super::entries::Found;
 use columns::Cursor;
 use columns::Row;
 use columns::Step;
-ghost use mathlib.Core.Path.{_≡_};
-ghost use Prim.Native.Nat.{_+_, _≤_, _<_};
-ghost use lib.ListN.{length};
 ghost use Rattle.theory.specs.Table.{table};
 ghost use Rattle.reader.specs.Found.{Room, start, May-begin, Answered, Unstarred};
 ghost use Rattle.reader.specs.Whole.{Begun, Whole-read};
@@ -36,7 +34,7 @@ pub fn expression(
     else {
         return first;
     };
-    super::entries::stars(text, cursor, made, room, kind, left, right)
+    entries::stars(text, cursor, made, room, kind, left, right)
 }
 
 // `1`, a letter, or two expressions with their sign in parentheses.
@@ -60,7 +58,7 @@ fn operand(
         return Found::Refused { number: 13, place };
     };
     if byte != b'(' {
-        return super::entries::leaf(byte, place, cursor, made, room, kind, left, right);
+        return entries::leaf(byte, place, cursor, made, room, kind, left, right);
     }
     if depth == 64 {
         return Found::Refused { number: 14, place };
@@ -73,7 +71,7 @@ fn operand(
     else {
         return x;
     };
-    let sign = super::entries::sign(text, cursor);
+    let sign = entries::sign(text, cursor);
     let Found::Value {
         value: kind_of_sign,
         cursor,
@@ -94,7 +92,7 @@ fn operand(
         left: (first - 1) as u16,
         right: (second - 1) as u16,
     };
-    super::entries::close(text, cursor, second, room, row, kind, left, right)
+    entries::close(text, cursor, second, room, row, kind, left, right)
 }
 
 // 01: "`0` alone is the empty language." Any other text begins with an expression.
@@ -123,7 +121,7 @@ fn beginning(
             left: 0,
             right: 0,
         };
-        return super::entries::entry(0, cursor, 0, room, row, kind, left, right);
+        return entries::entry(0, cursor, 0, room, row, kind, left, right);
     }
     expression(text, start, 0, 0, room, kind, left, right)
 }

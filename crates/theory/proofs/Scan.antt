@@ -9,7 +9,6 @@ use mathlib.Core.List.{List, [], _∷_}
 use mathlib.Core.Option.{none, some}
 use lib.ListN.{length, drop, getD, drop-of-length-le}
 use lib.Seq.{drop-cons}
-use lib.Dec.{ltb}
 use borrow.Author.Tests.{lt-ltb, le-ltb}
 use Rattle.theory.specs.Expression.{Expression, Sign, union, concatenation, shuffle, star, binary}
 use Rattle.theory.specs.Refusal.{refusal, not-grammar, too-deep, too-many-entries}
@@ -44,7 +43,7 @@ module _ (room : ℕ) (text : Text) (p k : ℕ) (c : Stand) where
 
         pub at-entry : makes-entry (getD text p 0) ≡ true → k < room → scan-from room p k c (drop p text) ≡ scan-from room (p + 1) (k + 1) c′ (drop (p + 1) text)
         unfolding scan-from
-        at-entry m f = rw (from-here, scan-from, e, le-ltb 64 (open-at c′) d, m, le-ltb room (suc k) (omega arith)) (rw (m, add-one, add-one))
+        at-entry m f = rw (from-here, scan-from, e, le-ltb 64 (open-at c′) d, m, le-ltb room (suc k) (omega arith)) (rw (m, add-one p, add-one k))
 
         pub at-mark : makes-entry (getD text p 0) ≡ false → k ≤ room → scan-from room p k c (drop p text) ≡ scan-from room (p + 1) k c′ (drop (p + 1) text)
         unfolding scan-from

@@ -1,6 +1,6 @@
 -- `leaf` makes the row of the expression that its byte is.
 use borrow.Author.Needs.{needs}
-use mathlib.Core.Path.{refl, sym, _∙_}
+use mathlib.Core.Path.{sym, _∙_}
 use Rattle.theory.specs.Grammar.{rows}
 use Rattle.reader.proofs.Leaf.{leaf-unit, leaf-letter, leaf-other}
 use Rattle.reader.proofs.entries.leaf.Statement.{statement}

@@ -13,7 +13,7 @@ use Rattle.reader.specs.declared.entries.Found.the-variants.{Value}
 use Rattle.reader.specs.Found.{Entry, Unstarred}
 use Rattle.reader.proofs.Answers.{star-row}
 use Rattle.reader.proofs.Stepped.{Stepped, step-end, step-byte}
-use Rattle.reader.proofs.Stars.{Starred, starred-none, starred-answers, starred-more}
+use Rattle.reader.proofs.Stars.{Starred, starred-answers, starred-more}
 use Rattle.reader.proofs.entries.stars.Statement.{statement}
 use Rattle.reader.proofs.entries.stars.Tie as tie
 

@@ -1,6 +1,6 @@
 -- The proof of the cycle of calls {expression, operand}. The measure is twice the text that is left, and one more for `expression`, which
 -- calls `operand` where it stands; `operand` calls `expression` behind a byte. Each answer cites what its parts answered.
-use Prim.Native.Nat.{ℕ, _+_, _-_, _*_, _<_}
+use Prim.Native.Nat.{ℕ, _+_, _-_, _*_, _≤_, _<_}
 use native.Mathlib.Omega.{arith}
 use mathlib.Core.Path.{_≡_, sym, subst, _∙_}
 use lib.ListN.{length, getD}
@@ -10,7 +10,6 @@ use borrow.Fn.PlainCycle.{Measures, is, falls, and}
 use Rattle.theory.specs.Table.{table}
 use Rattle.theory.specs.Grammar.{byte-*}
 use Rattle.reader.specs.declared.entries.Found.{Found}
-use Rattle.reader.specs.declared.entries.Found.the-variants.{Value}
 use Rattle.reader.specs.Found.{Sign-at, Start, start, Behind, Answered, Unstarred}
 use Rattle.reader.proofs.Stepped.{Stepped, step-end, step-byte}
 use Rattle.reader.proofs.Answers.{end-answers, leaf-answers, behind-positive}
@@ -170,6 +169,14 @@ module _ (t : ℕ) where
   right-unstarred : (c : operand-lts.After-y (operand-calls t) (operand-at t) operand.Post) → getD (c .before .before .before .before .before .before .before .before .before .before .before .before .before .before .before .before .before .before .before .before .before .before .before .before .before .before .before .before .before .before .before .before .before .before .before .before .before .before .before .args .text .now) (c .y .given .0 .1 .0 .at) 0 ≡ byte-* → ⊥
   right-unstarred c = subst (Unstarred (c .before .before .before .before .before .before .before .before .before .before .before .before .before .before .before .before .before .before .before .before .before .before .before .before .before .before .before .before .before .before .before .before .before .before .before .before .before .before .before .args .text .now)) (c .y .given .1) (c .before .before .before .before .before .before .before .before .expression2 .ensures .1)
 
+  both-made : (c : operand-lts.After-known-told4 (operand-calls t) (operand-at t) operand.Post)
+      → let first = c .before .before .before .before .before .before .before .before .before .before .before .before .before .before .before .before .before .before .x .given .0 .0 in let second = c .before .y .given .0 .0 in (0 < first) × (first ≤ 512) × (0 < second) × (second ≤ 512)
+  both-made c =
+      let x = left-found (c .before .before .before .before .before .before .before .before .before .before .before .before .before .before .before .before .before .before) in
+      let y = right-found (c .before) in
+      let small = c .before .before .before .before .before .before .before .before .before .before .before .before .before .before .before .before .before .before .before .before .before .before .before .before .before .before .before .before .before .before .before .before .before .before .before .before .before .before .before .before .pre .1 .room-left .small in
+      (behind-positive _ _ x, omega (arith, x .fits), behind-positive _ _ y, omega (arith, y .fits))
+
   operand-step-requires : operand-lts.Need-step-requires (operand-calls t) (operand-at t) operand.Post
   operand-step-requires c κs = search needs
 
@@ -292,16 +299,16 @@ module _ (t : ℕ) where
   operand-cast-t43 c = omega (arith, signed-kind (signed-at (c .before .before .before .before .before .before .before .before .before .before .before .before .before .before)))
 
   operand-sub-t30 : operand-lts.Need-sub-t30 (operand-calls t) (operand-at t) operand.Post
-  operand-sub-t30 c = omega (arith, behind-positive _ _ (left-found (c .before .before .before .before .before .before .before .before .before .before .before .before .before .before .before .before .before .before)))
+  operand-sub-t30 c = omega (arith, both-made c .0, both-made c .1, both-made c .2, both-made c .3)
 
   operand-cast-t44 : operand-lts.Need-cast-t44 (operand-calls t) (operand-at t) operand.Post
-  operand-cast-t44 c = omega (arith, left-found (c .before .before .before .before .before .before .before .before .before .before .before .before .before .before .before .before .before .before) .fits, c .before .before .before .before .before .before .before .before .before .before .before .before .before .before .before .before .before .before .before .before .before .before .before .before .before .before .before .before .before .before .before .before .before .before .before .before .before .before .before .before .pre .1 .room-left .small)
+  operand-cast-t44 c = omega (arith, both-made c .0, both-made c .1, both-made c .2, both-made c .3)
 
   operand-sub-t45 : operand-lts.Need-sub-t45 (operand-calls t) (operand-at t) operand.Post
-  operand-sub-t45 c = omega (arith, behind-positive _ _ (right-found (c .before)))
+  operand-sub-t45 c = omega (arith, both-made c .0, both-made c .1, both-made c .2, both-made c .3)
 
   operand-cast-t46 : operand-lts.Need-cast-t46 (operand-calls t) (operand-at t) operand.Post
-  operand-cast-t46 c = omega (arith, right-found (c .before) .fits, c .before .before .before .before .before .before .before .before .before .before .before .before .before .before .before .before .before .before .before .before .before .before .before .before .before .before .before .before .before .before .before .before .before .before .before .before .before .before .before .before .pre .1 .room-left .small)
+  operand-cast-t46 c = omega (arith, both-made c .0, both-made c .1, both-made c .2, both-made c .3)
 
   operand-close-requires : operand-lts.Need-close-requires (operand-calls t) (operand-at t) operand.Post
   operand-close-requires c κs =
