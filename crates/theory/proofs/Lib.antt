@@ -11,6 +11,7 @@ pub mod Meetings
 pub mod Nearing
 pub mod Trees
 pub mod Grammar
+pub mod Scan
 pub mod Rows
 pub mod Sound
 pub mod KindOf
