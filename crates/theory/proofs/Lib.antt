@@ -23,3 +23,4 @@ pub mod TableRefusal
 pub mod Used
 pub mod WellFormed
 pub mod Examples
+pub mod Accepts
