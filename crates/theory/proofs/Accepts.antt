@@ -1,1 +1,2 @@
 pub mod Arcs
+pub mod Columns
