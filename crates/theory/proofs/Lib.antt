@@ -24,3 +24,4 @@ pub mod Used
 pub mod WellFormed
 pub mod Examples
 pub mod Accepts
+pub mod Verdicts

@@ -3,15 +3,15 @@
 use Prim.Native.Nat.{ℕ, zero, suc, _+_, _≤_, _<_, zero-le, suc-le-suc}
 use native.Mathlib.Nat.{eq-or-lt-of-le, le-of-suc-le-suc, not-suc-le-zero, add-suc, add-zero, zero-add, suc-add}
 use native.Mathlib.Omega.{arith}
-use mathlib.Core.Path.{_≡_, refl, sym, ap, _∙_, subst}
-use mathlib.Core.Logic.{_⊎_, inl, inr, ⊎-elim}
-use mathlib.Core.List.{List, [], _∷_, _++_, map, List·Memᴰ, List·Memᴰ·head, List·Memᴰ·tail, List·Memᴰ·not-nil, List·Memᴰ·append-cases, Memᴰ·append-left, Memᴰ·append-right, Memᴰ·map, Memᴰ·of-map}
+use mathlib.Core.Path.{_≡_, refl, sym, _∙_, subst}
+use mathlib.Core.Logic.{⊎-elim}
+use mathlib.Core.List.{List, [], _∷_, map, List·Memᴰ, List·Memᴰ·head, List·Memᴰ·tail, List·Memᴰ·not-nil, List·Memᴰ·append-cases, Memᴰ·append-left, Memᴰ·append-right, Memᴰ·map, Memᴰ·of-map}
 use lib.ListN.{length, getD}
 use Rattle.theory.specs.Expression.{Expression, ∅, same}
 use Rattle.theory.specs.Distinct.{place}
 use Rattle.theory.specs.Derivative.{derivative}
 use Rattle.theory.specs.Automaton.{ascending, alphabet, successors, states, Derived, Arc, arc, leaving, leaving-all, arcs}
-use Rattle.theory.proofs.Distinct.{getD-member, place-below, at-place}
+use Rattle.theory.proofs.Distinct.{getD-member, place-below}
 use Rattle.theory.proofs.Members.{to-flatMap, flatMap-of}
 use Rattle.theory.proofs.States.{states-derived, derived-states, derived-support}
 use Rattle.theory.proofs.Bounds.Letters.{derivative-letter, support-letters}
@@ -87,7 +87,7 @@ arcs-of e {z} h =
     (r .1, record { from = sym i; member = v .member; derived = v .derived; to = v .to })
 
 -- Each letter by which a state's derivative has a member is one of the alphabet.
-pub state-letter : (e : Expression) → Lettered e → (i : ℕ) → i < length (states e) → (a : ℕ) (m : Expression)
+state-letter : (e : Expression) → Lettered e → (i : ℕ) → i < length (states e) → (a : ℕ) (m : Expression)
     → List·Memᴰ m (derivative a (getD (states e) i ∅)) → (1 ≤ a) × (a ≤ 255)
 state-letter e good i l a m h =
     let x = getD (states e) i ∅ in
@@ -111,3 +111,12 @@ module _ (e : Expression) (good : Lettered e) (i : ℕ) (l : i < length (states 
   to-arcs =
       to-all-leaving (states e) 0 (states e) i l
       (rw (zero-add i) (to-leaving (states e) i (getD (states e) i ∅) in-alphabet h))
+
+-- Arcs end at states, and their letters are of the alphabet.
+pub arcs-end : (e : Expression) → Lettered e → {z : Arc} → List·Memᴰ z (arcs e)
+    → (z .from < length (states e)) × (z .to < length (states e)) × (1 ≤ z .letter) × (z .letter ≤ 255)
+arcs-end e good {z} h =
+    let (l, v) = arcs-of e h in
+    let s = member-state e good (z .from) l (z .letter) (v .member) (v .derived) in
+    let r = state-letter e good (z .from) l (z .letter) (v .member) (v .derived) in
+    (l, subst (λ (n : ℕ). n < length (states e)) (sym (v .to)) (place-below same (v .member) (states e) s), r .0, r .1)
