@@ -2,12 +2,12 @@
 -- handed over, and those columns are well-formed. Leans on `Accepts.Arcs` and `Accepts.Columns`, and on `Language`: the test for the empty word
 -- and the derivative are right.
 use Prim.Native.Nat.{ℕ, zero, suc, _≤_, _<_}
-use native.Mathlib.Nat.{le-refl, le-trans, lt-of-not-le}
+use native.Mathlib.Nat.{le-refl, lt-of-not-le}
 use native.Mathlib.Omega.{arith}
 use mathlib.Core.Path.{_≡_, refl, sym, ap, ap₂, _∙_, subst}
 use mathlib.Core.Logic.{_↔_, Iff·trans}
 use mathlib.Core.Bool.{Bool, true, false, cond, not, _&&_}
-use mathlib.Core.List.{List, [], _∷_, _++_, map, List·Memᴰ}
+use mathlib.Core.List.{List, [], _∷_, _++_, map, List·Memᴰ, Memᴰ·cast}
 use lib.ListN.{length, getD, take, length-map, List·getD-map, List·getD-eq-default}
 use lib.Seq.{take-suc, take-length}
 use lib.Dec.{eqb, ltb}
@@ -50,7 +50,7 @@ accepting-length e = length-map (states e) (λ x. cond (empty-word x) 1 0)
 -- What the column does not hold is not 1.
 accepting-below : (e : Expression) (t : ℕ) → getD (accepting e) t 0 ≡ 1 → t < length (states e)
 accepting-below e t h =
-    lt-of-not-le (λ l. let z = List·getD-eq-default (accepting e) 0 (le-trans (omega (arith, accepting-length e)) l) in omega arith)
+    lt-of-not-le (λ l. let z = List·getD-eq-default (accepting e) 0 {n = t} (omega (arith, accepting-length e)) in omega arith)
 
 -- ---- Proposition 5
 
@@ -72,7 +72,7 @@ module _ (e : Expression) (good : Lettered e) where
           let there : getD (states e) k ∅ ≡ v .member = ap (λ (n : ℕ). getD (states e) n ∅) (v .to) ∙ at-place same (v .member) (states e) ∅ s in (
             v .member,
             v .derived,
-            subst (λ x. In x w) there ((ih k (subst (λ (n : ℕ). n < length (states e)) (sym (v .to)) (place-below same (v .member) (states e) s))) .0 (j, r, acc)),
+            subst (λ x. In x w) there ((ih k (arcs-end e good z .1)) .0 (j, r, acc)),
           )
 
       back : (m : Expression) × List·Memᴰ m (derivative a (getD (states e) i ∅)) × In m w → Read e i (a ∷ w)
@@ -88,8 +88,7 @@ module _ (e : Expression) (good : Lettered e) where
   read-language (a ∷ w) i l = Iff·trans (read-step w (read-language w) i l a) (derivative-right a (getD (states e) i ∅) w)
 
 pub leads-language : (e : Expression) → Lettered e → (w : Word) → ((j : ℕ) × Leads (arcs e) 0 w j × (getD (accepting e) j 0 ≡ 1)) ↔ In e w
-leads-language e good w =
-    subst (λ x. ((j : ℕ) × Leads (arcs e) 0 w j × (getD (accepting e) j 0 ≡ 1)) ↔ In x w) (states-zero e ∅) (read-language e good w 0 (states-some e))
+leads-language e good w = subst (λ x. Read e 0 w ↔ In x w) (states-zero e ∅) (read-language e good w 0 (states-some e))
 
 -- ---- Over columns
 
@@ -150,7 +149,8 @@ automaton-arcs-fit e l =
 
 automaton-accepting-fits : (e : Expression) → accepting-fits (automaton e) ≡ true
 unfolding automaton accepting-fits
-automaton-accepting-fits e = all-each (length (states e)) _ (λ t l. le-leb (getD (accepting e) t 0) 1 (rw (accepting-at e t) (small (empty-word (getD (states e) t ∅)))))
+automaton-accepting-fits e =
+    all-each (length (states e)) _ (λ t l. le-leb (getD (accepting e) t 0) 1 (rw (accepting-at e t) (small (empty-word (getD (states e) t ∅)))))
   where
     small : (b : Bool) → cond b 1 0 ≤ 1
     small true = omega arith
@@ -158,7 +158,9 @@ automaton-accepting-fits e = all-each (length (states e)) _ (λ t l. le-leb (get
 
 automaton-ends-fit : (e : Expression) → Lettered e → ends-fit (automaton e) ≡ true
 unfolding automaton ends-fit
-automaton-ends-fit e good = all-each (length (arcs e)) _ (λ i l. fits (arc-at (automaton e) i) (subst (λ (z : Arc). List·Memᴰ z (arcs e)) (sym (arc-at-automaton e i)) (getD-member (arcs e) i (arc 0 0 0) l)))
+automaton-ends-fit e good =
+    all-each (length (arcs e)) _
+    (λ i l. fits (arc-at (automaton e) i) (Memᴰ·cast (arc-at-automaton e i) (getD-member (arcs e) i (arc 0 0 0) l)))
   where
     fits : (z : Arc) → List·Memᴰ z (arcs e) → (ltb (z .from) (length (states e)) && ltb (z .to) (length (states e)) && not (eqb (z .letter) 0)) ≡ true
     fits z m =

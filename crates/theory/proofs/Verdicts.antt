@@ -21,11 +21,11 @@ use Rattle.theory.proofs.Below.{some-at, some-of, all-at, some-cong, al
 use Rattle.theory.proofs.Reached.{Ends, start-below, after-below, verdict-wrong, verdict-whole}
 use Rattle.theory.proofs.Accepts.Columns.{used, reached-iff, Accepted, accepts-iff}
 
--- ---- Some state
+-- ---- States below the state count
 
--- s has some state.
-abbrev pub Some : Handed → States → Type 0
-Some h s = (t : ℕ) × (t < h .states) × (s t ≡ true)
+-- Some state is in s.
+abbrev pub Alive : Handed → States → Type 0
+Alive h s = (t : ℕ) × (t < h .states) × (s t ≡ true)
 
 -- What the well-formed columns bring to a verdict.
 pub record Formed (h : Handed) : Type 0 where
@@ -35,8 +35,8 @@ pub record Formed (h : Handed) : Type 0 where
 nonempty-of : (h : Handed) → states-fit h ≡ true → 0 < h .states
 unfolding states-fit
 nonempty-of h e =
-    let some = (and-eq-true-iff _ _) .0 ((and-eq-true-iff _ _) .0 e .0) .0 in
-    let n = eqb-false (h .states) 0 (not-true _ some) in omega arith
+    let nonzero = (and-eq-true-iff _ _) .0 ((and-eq-true-iff _ _) .0 e .0) .0 in
+    let n = eqb-false (h .states) 0 (not-true _ nonzero) in omega arith
 
 ends-of : (h : Handed) → ends-fit h ≡ true → Ends h
 unfolding ends-fit
@@ -64,25 +64,26 @@ module _ {h : Handed} (good : Formed h) where
       lt-of-not-le (λ l. false≢true (sym (after-below h (good .ends) start (start-below (h .states) (good .nonempty)) w t l) ∙ r))
 
   -- Where a record reaches a state, each beginning of it does.
-  begins : (u v : Word) → Some h (reached h (u ++ v)) → Some h (reached h u)
+  begins : (u v : Word) → Alive h (reached h (u ++ v)) → Alive h (reached h u)
   begins u v (t, _, r) =
       let (k, m, _) = leads-append (used h) 0 u v t ((reached-iff h (u ++ v) t) .0 r) in
       let q = (reached-iff h u k) .1 m in
       (k, reached-below u k q, q)
 
-  earlier : (w : Word) (i j : ℕ) → i ≤ j → Some h (reached h (take j w)) → Some h (reached h (take i w))
+  earlier : (w : Word) (i j : ℕ) → i ≤ j → Alive h (reached h (take j w)) → Alive h (reached h (take i w))
   earlier w i j l s =
       let parts : j ≡ i + (j - i) = omega arith in
-      begins (take i w) (take (j - i) (drop i w)) (subst (λ u. Some h (reached h u)) (ap (λ (n : ℕ). take n w) parts ∙ take-add i (j - i) w) s)
+      begins (take i w) (take (j - i) (drop i w)) (subst (λ u. Alive h (reached h u)) (ap (λ (n : ℕ). take n w) parts ∙ take-add i (j - i) w) s)
 
 -- ---- The first dead byte
 
 -- The course of a record from the states s: it dies at a byte of its own, or lives to its end.
 data Course (h : Handed) (s : States) (p : ℕ) (w : Word) : Type 0 where
-  dies : (k : ℕ) → k < length w → Some h (after h s (take k w)) → (Some h (after h s (take (suc k) w)) → ⊥) → dead-at h s p w ≡ some (p + k) → Course h s p w
-  lives : Some h (after h s w) → dead-at h s p w ≡ none → Course h s p w
+  dies : (k : ℕ) → k < length w → Alive h (after h s (take k w)) → (Alive h (after h s (take (suc k) w)) → ⊥) → dead-at h s p w ≡ some (p + k)
+      → Course h s p w
+  lives : Alive h (after h s w) → dead-at h s p w ≡ none → Course h s p w
 
-course : (h : Handed) (s : States) (p : ℕ) (w : Word) → Some h s → Course h s p w
+course : (h : Handed) (s : States) (p : ℕ) (w : Word) → Alive h s → Course h s p w
 unfolding after dead-at
 course h s p [] a = lives a refl
 course h s p (b ∷ w) a = go (some-below (h .states) (moved h s b)) refl (course h (moved h s b) (suc p) w)
@@ -90,23 +91,24 @@ course h s p (b ∷ w) a = go (some-below (h .states) (moved h s b)) refl (cours
     next : States
     next = moved h s b
 
-    go : (d : Bool) → some-below (h .states) next ≡ d → (Some h next → Course h next (suc p) w) → Course h s p (b ∷ w)
+    go : (d : Bool) → some-below (h .states) next ≡ d → (Alive h next → Course h next (suc p) w) → Course h s p (b ∷ w)
     go true e later = on (later (some-of (h .states) next e))
       where
         on : Course h next (suc p) w → Course h s p (b ∷ w)
         on (dies k l c d q) = dies (suc k) (suc-le-suc l) c d (rw (dead-at, e) (q ∙ ap some (suc-add p k ∙ sym (add-suc p k))))
         on (lives c q) = lives c (rw (dead-at, e) q)
-    go false e later = dies 0 (suc-le-suc zero-le) a (λ (t, l, r). false≢true (sym e ∙ some-at (h .states) next t l r)) (rw (dead-at, e) (ap some (sym (add-zero p))))
+    go false e later =
+        dies 0 (suc-le-suc zero-le) a (λ (t, l, r). false≢true (sym e ∙ some-at (h .states) next t l r)) (rw (dead-at, e) (ap some (sym (add-zero p))))
 
 -- ---- The verdict
 
 -- 01: "p is the first byte, from 0, after which no state is reached".
 abbrev pub WrongAt : Handed → Word → ℕ → Type 0
-WrongAt h w p = (p < length w) × (Some h (reached h (take (suc p) w)) → ⊥) × Some h (reached h (take p w))
+WrongAt h w p = (p < length w) × (Alive h (reached h (take (suc p) w)) → ⊥) × Alive h (reached h (take p w))
 
 -- 01: "states are reached, none accepting".
 abbrev pub Unfinished : Handed → Word → Type 0
-Unfinished h w = Some h (reached h w) × (Accepted h w → ⊥)
+Unfinished h w = Alive h (reached h w) × (Accepted h w → ⊥)
 
 -- What a verdict says of a record.
 abbrev pub Says : Handed → Word → Verdict → Type 0
@@ -119,7 +121,7 @@ module _ {h : Handed} (good : Formed h) (w : Word) where
   unfolding reached start
   says-true = go (course h start 0 w (0, good .nonempty, refl))
     where
-      whole : (b : Bool) → accepts h w ≡ b → Some h (reached h w) → Says h w (cond b accepted unfinished)
+      whole : (b : Bool) → accepts h w ≡ b → Alive h (reached h w) → Says h w (cond b accepted unfinished)
       whole true e s = (accepts-iff h w) .0 e
       whole false e s = (s, λ a. false≢true (sym e ∙ (accepts-iff h w) .1 a))
 
@@ -127,9 +129,9 @@ module _ {h : Handed} (good : Formed h) (w : Word) where
       go (dies k l c d q) = subst (Says h w) (sym (verdict-wrong h w k (q ∙ ap some (zero-add k)))) (l, d, c)
       go (lives c q) = subst (Says h w) (sym (verdict-whole h w q)) (whole (accepts h w) refl c)
 
-  wrong-not-whole : (p : ℕ) → WrongAt h w p → Some h (reached h w) → ⊥
+  wrong-not-whole : (p : ℕ) → WrongAt h w p → Alive h (reached h w) → ⊥
   wrong-not-whole p (_, d, _) s =
-      d (begins good (take (suc p) w) (drop (suc p) w) (subst (λ u. Some h (reached h u)) (sym (take-append-drop (suc p) w)) s))
+      d (begins good (take (suc p) w) (drop (suc p) w) (subst (λ u. Alive h (reached h u)) (sym (take-append-drop (suc p) w)) s))
 
   wrong-not-accepted : (p : ℕ) → WrongAt h w p → Accepted h w → ⊥
   wrong-not-accepted p x (t, l, r, _) = wrong-not-whole p x (t, l, r)
@@ -158,7 +160,7 @@ module _ (h : Handed) (good : well-formed h ≡ true) (w : Word) where
   pub verdict-accepted : (verdict h w ≡ accepted) ↔ (accepts h w ≡ true)
   verdict-accepted = Iff·trans (verdict-says accepted) (Iff·symm (accepts-iff h w))
 
-  pub verdict-unfinished : (verdict h w ≡ unfinished) ↔ (Some h (reached h w) × (Accepted h w → ⊥))
+  pub verdict-unfinished : (verdict h w ≡ unfinished) ↔ Unfinished h w
   verdict-unfinished = verdict-says unfinished
 
   pub verdict-wrong-at : (p : ℕ) → (verdict h w ≡ wrong p) ↔ WrongAt h w p
@@ -183,7 +185,7 @@ module _ {h k : Handed} (a : Agree h k) where
   moved-agree : (s : States) (b : ℕ) → moved h s b ≡ moved k s b
   unfolding moved leads
   moved-agree s b =
-      fun-ext (λ t. some-cong (h .arcs) _ _ (λ i l. step t i l) ∙ ap (λ (n : ℕ). some-below n (leads (k .from) (k .letter) (k .to) s b t)) (a .arcs))
+      fun-ext (λ t. some-cong (h .arcs) _ _ (step t) ∙ ap (λ (n : ℕ). some-below n (leads (k .from) (k .letter) (k .to) s b t)) (a .arcs))
     where
       step : (t i : ℕ) → i < h .arcs → leads (h .from) (h .letter) (h .to) s b t i ≡ leads (k .from) (k .letter) (k .to) s b t i
       step t i l =

@@ -98,7 +98,7 @@ after-iff h s (b ∷ w) t = Iff·trans (after-iff h (moved h s b) w t) (forth, b
     back : Comes h s (b ∷ w) t → Comes h (moved h s b) w t
     back (i, q, (k, z, m)) = (k, (moved-iff h s b k) .1 (i, q, z), m)
 
--- "where every record starts"
+-- Every record starts in state 0.
 pub reached-iff : (h : Handed) (w : Word) (t : ℕ) → (reached h w t ≡ true) ↔ Leads (used h) 0 w t
 unfolding reached start
 reached-iff h w t = Iff·trans (after-iff h start w t) (forth, λ m. (0, refl, m))
