@@ -1,3 +1,4 @@
 pub mod Using
 pub mod Adding
 pub mod Meeting
+pub mod Starting

@@ -9,8 +9,8 @@ use Rattle.theory.specs.Expression.{Expression, same}
 use Rattle.theory.specs.Distinct.{place, Within}
 use Rattle.theory.specs.Derivative.{empty-word}
 use Rattle.theory.specs.Automaton.{states, arcs, expressions}
-use Rattle.theory.specs.Column.{filled}
-use Rattle.theory.specs.Table.{trees, tree-at}
+use Rattle.theory.specs.Column.{zeros, filled}
+use Rattle.theory.specs.Table.{Table, trees, tree-at}
 use Rattle.theory.specs.Build.{Lent, Names}
 use Rattle.theory.proofs.Meetings.{Meeting, meeting, meetings, so-far}
 use Rattle.theory.proofs.Nearing.{Starts}
@@ -87,3 +87,32 @@ pub record Meets (c : Lent) (k : Counts) (i a r : ℕ) : Type 0 where
 
 pub record Met (c : Lent) (k rooms : Counts) (i a r : ℕ) (w : Went) (c′ : Lent) : Type 0 where
   pub goes : Goes (root c) (next-met c k i a r) rooms w c′
+
+-- The columns of rows and states before the first state: zero, and as long as the rooms.
+pub record Begins (rooms : Counts) (t : Table) (expression accepting : List ℕ) : Type 0 where
+  pub left-length : length (t .left) ≡ length (t .kind)
+  pub right-length : length (t .right) ≡ length (t .kind)
+  pub kind-zero : t .kind ≡ zeros (length (t .kind))
+  pub left-zero : t .left ≡ zeros (length (t .left))
+  pub right-zero : t .right ≡ zeros (length (t .right))
+  pub expression-zero : expression ≡ zeros (length expression)
+  pub accepting-zero : accepting ≡ zeros (length accepting)
+  pub rows-in : rooms .rows ≤ length (t .kind)
+  pub rows-small : rooms .rows ≤ 65535
+  pub states-in : rooms .states ≤ length expression
+  pub accepting-in : rooms .states ≤ length accepting
+
+-- The given expression stands as state 0.
+pub record Standing (e : Expression) (rooms k : Counts) (t : Table) (expression accepting : List ℕ) : Type 0 where
+  pub rows : Rows t (k .rows)
+  pub needed : Within (trees t (k .rows)) (expressions e)
+  pub rows-fit : k .rows ≤ rooms .rows
+  pub one-state : k .states ≡ 1
+  pub no-arc : k .arcs ≡ 0
+  pub named : Names t (k .rows) expression (e ∷ [])
+  pub flags : accepting ≡ filled (length accepting) (cond (empty-word e) 1 0 ∷ [])
+  pub state-room : 1 ≤ rooms .states
+
+abbrev pub Begun : Expression → Counts → Went → Table → List ℕ → List ℕ → Type 0
+Begun e rooms (On k) t expression accepting = Standing e rooms k t expression accepting
+Begun e rooms NoRoom t expression accepting = Exceeds e rooms
