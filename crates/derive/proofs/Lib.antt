@@ -1,1 +1,5 @@
 pub mod Growing
+pub mod Joining
+pub mod Listing
+pub mod Lowering
+pub mod Siding

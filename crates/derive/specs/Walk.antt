@@ -4,6 +4,7 @@ use mathlib.Core.Path.{_≡_}
 use mathlib.Core.Option.{Option, none, some}
 use mathlib.Core.List.{List, [], _∷_, List·Memᴰ}
 use Rattle.theory.specs.Expression.{Expression, same}
+use Rattle.theory.specs.Distinct.{without}
 use Rattle.theory.specs.Table.{Table, trees, tree-at}
 use Rattle.derive.specs.declared.walk.Place.{Place}
 use Rattle.derive.specs.declared.walk.Place.the-variants.{Start, Behind}
@@ -20,6 +21,12 @@ if-yes (no n) x y = y
 unfoldable pub behind : Expression → List Expression → List Expression
 behind p [] = []
 behind p (x ∷ xs) = let r = behind p xs in if-yes (same p x) xs r
+
+-- ys with each member of xs taken out
+unfoldable pub beyond : List Expression → List Expression → List Expression
+unfolding without
+beyond [] ys = ys
+beyond (x ∷ xs) ys = without same x (beyond xs ys)
 
 abbrev pub first-of : List Expression → Option Expression
 first-of [] = none
