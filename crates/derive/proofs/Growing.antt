@@ -1,11 +1,15 @@
 -- Laws of the expression columns on the way: the tree of a row, that different rows have different trees, rows that come behind, and
 -- one row more. Assumes nothing.
 use Prim.Native.Nat.{ℕ, suc, _+_, _≤_, _<_}
-use native.Mathlib.Decide.{ℕ-discrete}
-use native.Mathlib.Nat.{le-refl, le-trans, lt-of-lt-of-le, le-of-eq, eq-or-lt-of-le, le-of-suc-le-suc}
+use native.Mathlib.Decide.{ℕ-discrete, decLe}
+use native.Mathlib.Nat.{le-refl, le-of-lt, le-trans, lt-of-lt-of-le, le-of-eq, eq-or-lt-of-le, le-of-suc-le-suc}
 use native.Mathlib.Numerals.{add-one}
 use native.Mathlib.Omega.{arith}
-use mathlib.Core.Path.{_≡_, refl, sym, ap, _∙_, subst}
+use mathlib.Core.Path.{_≡_, refl, sym, ap, ap₂, _∙_, subst}
+use mathlib.Core.Bool.{Bool, true, false, _&&_, true≢false, false≢true}
+use lib.Dec.{eqb}
+use borrow.Author.Tests.{eqb-true, eq-eqb}
+use borrow.Author.Count.{below-more}
 use mathlib.Core.Logic.{_⊎_, inl, inr, ⊎-elim}
 use mathlib.Core.List.{List, [], _∷_, _++_, List·Memᴰ, List·Memᴰ·head, List·Memᴰ·tail, List·Memᴰ·append-cases, List·Memᴰ·eq-of-singleton, List·Memᴰ·not-nil, List·Memᴰ·cases-cons, Memᴰ·append-left, Memᴰ·cast}
 use lib.ListN.{length, getD, set, length-set}
@@ -16,7 +20,53 @@ use Rattle.theory.specs.Table.{Table, Row, table, row, entry, Sound, trees, tre
 use Rattle.theory.proofs.Distinct.{place-of}
 use Rattle.theory.proofs.Trees.{trees-length, trees-below, trees-kept, tree-kept, trees-of, to-trees}
 use Rattle.theory.proofs.Sound.{row-told, row-tree-cong}
+use Rattle.theory.proofs.KindOf.{sound-left, sound-right, sound-right-zero}
 use Rattle.derive.specs.Rows.{Rows, Grown}
+
+-- ---- A row told by a test
+
+-- The test that the code makes of a row.
+abbrev pub row-test : Row → ℕ → ℕ → ℕ → Bool
+row-test w k l r = eqb (w .kind) k && eqb (w .left) l && eqb (w .right) r
+
+pub test-told : (w : Row) (k l r : ℕ) → row-test w k l r ≡ true → w ≡ entry k l r
+test-told w k l r e = go (eqb (w .kind) k) (eqb (w .left) l) (eqb (w .right) r) refl refl refl e
+  where
+    go : (a b c : Bool) → eqb (w .kind) k ≡ a → eqb (w .left) l ≡ b → eqb (w .right) r ≡ c → (a && b && c) ≡ true → w ≡ entry k l r
+    go true true true p q s z =
+        let ek = eqb-true (w .kind) k p in
+        let el = eqb-true (w .left) l q in
+        let er = eqb-true (w .right) r s in
+        λ j. record { kind = ek j; left = el j; right = er j }
+    go true true false p q s z = absurd (false≢true z)
+    go true false c p q s z = absurd (false≢true z)
+    go false b c p q s z = absurd (false≢true z)
+
+pub test-refuted : (w : Row) (k l r : ℕ) → row-test w k l r ≡ false → w ≡ entry k l r → ⊥
+test-refuted w k l r e h =
+    true≢false
+    (sym (ap₂ _&&_ (ap₂ _&&_ (eq-eqb (w .kind) k (ap (λ (v : Row). v .kind) h)) (eq-eqb (w .left) l (ap (λ (v : Row). v .left) h)))
+    (eq-eqb (w .right) r (ap (λ (v : Row). v .right) h)))
+    ∙ e)
+
+-- None of the rows from `start` up to i is w.
+pub record Passed (t : Table) (start : ℕ) (w : Row) (i : ℕ) : Type 0 where
+  pub none : (j : ℕ) → start ≤ j → j < i → row t j ≡ w → ⊥
+
+pub passed-none : {t : Table} {start : ℕ} {w : Row} → Passed t start w start
+passed-none = record { none = λ j from below e. omega arith }
+
+pub passed-more : {t : Table} {start i : ℕ} {w : Row} → Passed t start w i → (row t i ≡ w → ⊥) → Passed t start w (i + 1)
+passed-more {t} {start} {i} {w} p n =
+    record { none = λ j from below. below-more (λ (k : ℕ). start ≤ k → row t k ≡ w → ⊥) i (λ k l h. p .none k h l) (λ _. n) j below from }
+
+-- A row that can be (k, l, r) comes behind its children.
+pub children-before : {i k l r : ℕ} → Sound i (entry k l r) → 3 ≤ k → (l ≤ i) × (r ≤ i)
+children-before {i} {k} {l} {r} s h = (le-of-lt (sound-left s h), go (decLe k 5))
+  where
+    go : Dec (k ≤ 5) → r ≤ i
+    go (yes m) = le-of-lt (sound-right s h m)
+    go (no n) = let z = sound-right-zero s (λ _. n) in omega arith
 
 -- ---- The tree of a row
 

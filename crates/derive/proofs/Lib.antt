@@ -1,4 +1,6 @@
+pub mod Answering
 pub mod Growing
+pub mod Interning
 pub mod Joining
 pub mod Listing
 pub mod Lowering

@@ -1,14 +1,19 @@
 -- Rows as 01's table of kinds has them: the tree of such a row, and that over different trees the tree tells the row. Assumes nothing.
-use Prim.Native.Nat.{ℕ, _≤_, _<_}
+use Prim.Native.Nat.{ℕ, zero, suc, _≤_, _<_}
+use native.Mathlib.Omega.{arith}
 use native.Mathlib.Nat.{lt-of-lt-of-le}
 use mathlib.Core.Path.{_≡_, refl, sym, ap, ap₂, _∙_, subst}
-use mathlib.Core.List.{List}
+use mathlib.Core.Bool.{Bool, true, false, _&&_, false≢true}
+use mathlib.Core.List.{List, [], _∷_, List·Memᴰ, List·Memᴰ·head, List·Memᴰ·tail}
+use lib.Dec.{eqb, leb}
+use borrow.Author.Tests.{eqb-true, leb-true}
 use lib.ListN.{length, getD}
 use Rattle.theory.specs.Expression.{Expression, same, Sign, ∅, ε, letter, binary, star, union, concatenation, shuffle}
 use Rattle.theory.specs.Distinct.{NoRepeats, place}
-use Rattle.theory.specs.Table.{Row, entry, Sound, of-∅, of-ε, of-letter, of-sign, of-star, kind-of-sign, meaning, node, row-tree}
+use Rattle.theory.specs.Table.{Row, entry, Sound, of-∅, of-ε, of-letter, of-sign, of-star, kind-of-sign, meaning, node, row-tree, fields-fit, children, row-children}
 use Rattle.theory.proofs.Distinct.{place-of}
 use Rattle.theory.proofs.Rows.Trees.{sign-meaning}
+use Rattle.theory.proofs.WellFormed.{Faultless}
 
 -- ---- The tree of a row, by its kind
 
@@ -62,3 +67,44 @@ row-tree-cong ts us (of-letter a low high e) h = rw e
 row-tree-cong ts us (of-sign s l r hl hr e) h =
     ap (λ v. row-tree v ts) e ∙ sign-tree s l r ts ∙ ap₂ (binary s) (h l hl) (h r hr) ∙ sym (sign-tree s l r us) ∙ sym (ap (λ v. row-tree v us) e)
 row-tree-cong ts us (of-star l hl e) h = ap (λ v. row-tree v ts) e ∙ ap star (h l hl) ∙ sym (ap (λ v. row-tree v us) e)
+
+-- ---- Entries without fault
+
+-- What the check lets through is a row of 01's table of kinds.
+pub faultless-sound : {n i : ℕ} {w : Row} → Faultless n i w → Sound i w
+unfolding meaning fields-fit row-children children kind-of-sign
+faultless-sound {n} {i} {w} h = go (w .kind) refl (h .known) (h .fits) (h .smaller)
+  where
+    and-left : (a b : Bool) → (a && b) ≡ true → a ≡ true
+    and-left true b e = refl
+    and-left false b e = e
+
+    and-right : (a b : Bool) → (a && b) ≡ true → b ≡ true
+    and-right true b e = e
+    and-right false b e = absurd (false≢true e)
+
+    rows-equal : {k l r : ℕ} → w .kind ≡ k → w .left ≡ l → w .right ≡ r → w ≡ entry k l r
+    rows-equal a b c = λ j. record { kind = a j; left = b j; right = c j }
+
+    signed : (s : Sign) → w .kind ≡ kind-of-sign s → ((c : ℕ) → List·Memᴰ c (w .left ∷ w .right ∷ []) → c < i) → Sound i w
+    signed s e smaller =
+        of-sign s (w .left) (w .right) (smaller (w .left) (List·Memᴰ·head refl)) (smaller (w .right) (List·Memᴰ·tail (List·Memᴰ·head refl)))
+        (rows-equal e refl refl)
+
+    leaf : (k : ℕ) → w .kind ≡ k → (eqb (w .left) 0 && eqb (w .right) 0) ≡ true → w ≡ entry k 0 0
+    leaf k e f = rows-equal e (eqb-true (w .left) 0 (and-left (eqb (w .left) 0) (eqb (w .right) 0) f)) (eqb-true (w .right) 0 (and-right (eqb (w .left) 0) (eqb (w .right) 0) f))
+
+    go : (k : ℕ) → w .kind ≡ k → k ≤ 6 → fields-fit (meaning k) (w .left) (w .right) ≡ true
+        → ((c : ℕ) → List·Memᴰ c (children (meaning k) (w .left) (w .right)) → c < i) → Sound i w
+    go zero e l f s = of-∅ (leaf 0 e f)
+    go (suc zero) e l f s = of-ε (leaf 1 e f)
+    go (suc (suc zero)) e l f s =
+        let range = and-left (leb 1 (w .left) && leb (w .left) 255) (eqb (w .right) 0) f in
+        of-letter (w .left) (leb-true 1 (w .left) (and-left (leb 1 (w .left)) (leb (w .left) 255) range)) (leb-true (w .left) 255 (and-right (leb 1 (w .left)) (leb (w .left) 255) range))
+        (rows-equal e refl (eqb-true (w .right) 0 (and-right (leb 1 (w .left) && leb (w .left) 255) (eqb (w .right) 0) f)))
+    go (suc (suc (suc zero))) e l f s = signed union e s
+    go (suc (suc (suc (suc zero)))) e l f s = signed concatenation e s
+    go (suc (suc (suc (suc (suc zero))))) e l f s = signed shuffle e s
+    go (suc (suc (suc (suc (suc (suc zero)))))) e l f s =
+        of-star (w .left) (s (w .left) (List·Memᴰ·head refl)) (rows-equal e refl (eqb-true (w .right) 0 f))
+    go (suc (suc (suc (suc (suc (suc (suc k))))))) e l f s = absurd (omega arith)

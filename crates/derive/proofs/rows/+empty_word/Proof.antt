@@ -1,4 +1,8 @@
 use borrow.Author.Needs.{needs}
+use native.Mathlib.Omega.{arith}
+use mathlib.Core.Path.{_∙_, ap, ap₂}
+use mathlib.Core.Bool.{_&&_, _||_}
+use Rattle.derive.proofs.Answering.{sound-to-less, left-below, right-below, word-ε, word-star, word-none, word-union, word-both}
 use Prim.Native.Nat.{ℕ, _<_}
 use borrow.Fn.Kinds.{In}
 use borrow.Fn.PlainCycle.{Measures, is, falls, and}
@@ -10,7 +14,7 @@ use Rattle.derive.proofs.rows.+empty_word.{statement}
 use Rattle.derive.proofs.rows.+empty_word.Tie.{close}
 
 abbrev μ-empty-word : Measures 3 empty-word-kinds.ps ℕ
-μ-empty-word κs a = ?
+μ-empty-word κs a = a .1 .1 .1 .0
 
 abbrev empty-word-at : ℕ → In 3 empty-word-kinds.ps
 empty-word-at t =
@@ -27,7 +31,7 @@ empty-word-row-at-requires : (t : ℕ) → empty-word-lts.Need-row-at-requires (
   empty-word-below t,
   empty-word.Post,
 ) (empty-word-at t) empty-word.Post
-empty-word-row-at-requires t c κs = search needs
+empty-word-row-at-requires t c κs = let s = c .before .before .before .pre .1 in (s .in-kind, s .in-left, s .in-right)
 
 -- src/rows.rt:89:9
 empty-word-returns : (t : ℕ) → empty-word-lts.Need-returns (
@@ -36,7 +40,7 @@ empty-word-returns : (t : ℕ) → empty-word-lts.Need-returns (
   empty-word-below t,
   empty-word.Post,
 ) (empty-word-at t) empty-word.Post
-empty-word-returns t c = search needs
+empty-word-returns t c = word-ε (c .before .before .before .before .before .pre .1) (c .before .row-at .ensures) (c .if1 .taken)
 
 -- src/rows.rt:92:9
 empty-word-returns-2 : (t : ℕ) → empty-word-lts.Need-returns-2 (
@@ -45,7 +49,7 @@ empty-word-returns-2 : (t : ℕ) → empty-word-lts.Need-returns-2 (
   empty-word-below t,
   empty-word.Post,
 ) (empty-word-at t) empty-word.Post
-empty-word-returns-2 t c = search needs
+empty-word-returns-2 t c = word-star (c .before .before .before .before .before .before .pre .1) (c .before .before .row-at .ensures) (c .if2 .taken)
 
 -- src/rows.rt:95:9
 empty-word-returns-3 : (t : ℕ) → empty-word-lts.Need-returns-3 (
@@ -54,7 +58,7 @@ empty-word-returns-3 : (t : ℕ) → empty-word-lts.Need-returns-3 (
   empty-word-below t,
   empty-word.Post,
 ) (empty-word-at t) empty-word.Post
-empty-word-returns-3 t c = search needs
+empty-word-returns-3 t c = word-none (c .before .before .before .before .before .before .before .pre .1) (c .before .before .before .row-at .ensures) (c .if3 .taken) (c .before .before .if1 .left)
 
 -- src/rows.rt:97:13
 empty-word-cast-l : (t : ℕ) → empty-word-lts.Need-cast-l (
@@ -81,7 +85,7 @@ empty-word-empty-word-requires : (t : ℕ) → empty-word-lts.Need-empty-word-re
   empty-word-below t,
   empty-word.Post,
 ) (empty-word-at t) empty-word.Post
-empty-word-empty-word-requires t c κs = search needs
+empty-word-empty-word-requires t c κs = let l = left-below (c .before .before .before .before .before .before .before .before .before .pre .1) (c .before .before .before .before .before .row-at .ensures) (c .before .before .if3 .left) in (omega (arith, c .before .before .before .before .before .before .before .before .before .pre .0), sound-to-less (c .before .before .before .before .before .before .before .before .before .pre .1) l)
 
 -- src/rows.rt:100:9
 empty-word-empty-word-requires-2 : (t : ℕ) → empty-word-lts.Need-empty-word-requires-2 (
@@ -90,7 +94,7 @@ empty-word-empty-word-requires-2 : (t : ℕ) → empty-word-lts.Need-empty-word-
   empty-word-below t,
   empty-word.Post,
 ) (empty-word-at t) empty-word.Post
-empty-word-empty-word-requires-2 t c κs = search needs
+empty-word-empty-word-requires-2 t c κs = let l = right-below (c .before .before .before .before .before .before .before .before .before .before .pre .1) (c .before .before .before .before .before .before .row-at .ensures) (c .before .before .before .if3 .left) (c .before .before .before .before .if2 .left) in (omega (arith, c .before .before .before .before .before .before .before .before .before .before .pre .0), sound-to-less (c .before .before .before .before .before .before .before .before .before .before .pre .1) l)
 
 -- src/rows.rt:82:1
 empty-word-returns-4 : (t : ℕ) → empty-word-lts.Need-returns-4 (
@@ -99,7 +103,7 @@ empty-word-returns-4 : (t : ℕ) → empty-word-lts.Need-returns-4 (
   empty-word-below t,
   empty-word.Post,
 ) (empty-word-at t) empty-word.Post
-empty-word-returns-4 t c = search needs
+empty-word-returns-4 t c = ap₂ _||_ (c .before .before .empty-word .ensures) (c .before .empty-word2 .ensures) ∙ word-union (c .before .before .before .before .before .before .before .before .before .before .before .before .pre .1) (c .before .before .before .before .before .before .before .before .row-at .ensures) (c .if4 .taken)
 
 -- src/rows.rt:82:1
 empty-word-returns-5 : (t : ℕ) → empty-word-lts.Need-returns-5 (
@@ -108,7 +112,7 @@ empty-word-returns-5 : (t : ℕ) → empty-word-lts.Need-returns-5 (
   empty-word-below t,
   empty-word.Post,
 ) (empty-word-at t) empty-word.Post
-empty-word-returns-5 t c = search needs
+empty-word-returns-5 t c = ap₂ _&&_ (c .before .before .empty-word .ensures) (c .before .empty-word2 .ensures) ∙ word-both (c .before .before .before .before .before .before .before .before .before .before .before .before .pre .1) (c .before .before .before .before .before .before .before .before .row-at .ensures) (c .before .before .before .before .before .if3 .left) (c .if4 .left) (c .before .before .before .before .before .before .if2 .left)
 
 pub +empty-word-spec : {M : Type 1} → statement M
 +empty-word-spec = close μ-empty-word λ t. empty-word-lts.spec (

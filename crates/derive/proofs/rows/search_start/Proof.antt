@@ -1,4 +1,5 @@
 use borrow.Author.Needs.{needs}
+use Rattle.derive.proofs.Growing.{children-before}
 use native.Mathlib.Omega.{arith}
 use Rattle.theory.specs.Table.{entry}
 use Rattle.theory.proofs.KindOf.{sound-left, sound-right-zero, sound-right}
@@ -13,11 +14,11 @@ returns c = search needs
 
 -- src/rows.rt:40:9
 returns-2 : tie.Need-returns-2
-returns-2 c = λ i s. ?
+returns-2 c = λ i s. children-before s (c .before .if1 .left) .1
 
 -- src/rows.rt:33:1
 returns-3 : tie.Need-returns-3
-returns-3 c = λ i s. omega (arith, sound-left s (c .before .if1 .left))
+returns-3 c = λ i s. children-before s (c .before .if1 .left) .0
 
 pub search-start-spec : {M : Type 1} → statement M
 search-start-spec = tie.close (tie.spec returns returns-2 returns-3)
