@@ -1,4 +1,4 @@
--- The join of a member with a side's other tree, undone. Assumes nothing.
+-- The join of a member with a side's other tree as a row, and that join undone. Assumes nothing.
 use Prim.Native.Nat.{ℕ, zero, suc, _≤_, _<_}
 use native.Mathlib.Omega.{arith}
 use mathlib.Core.Path.{_≡_, refl, sym, ap, ap₂, _∙_, subst}
@@ -81,6 +81,10 @@ pair-same s false o x o′ x′ e = (cc, cc)
 
 -- ---- The join undone
 
+-- A row other than row 0 is not the literal empty word.
+pub not-ε : {t : Table} {n i : ℕ} → Rows t n → i < n → (i ≡ 0 → ⊥) → tree-at t i ≡ ε → ⊥
+not-ε h l d e = d (rows-differ h l (h .some) (e ∙ sym (h .literal)))
+
 module _ {t : Table} {n p other kind : ℕ} (h : Rows t n) (lp : p < n) (lo : other < n) (low : 4 ≤ kind) (high : kind ≤ 5) (first : Bool) where
   abbrev s : Sign
   s = side-sign kind
@@ -91,16 +95,13 @@ module _ {t : Table} {n p other kind : ℕ} (h : Rows t n) (lp : p < n) (lo : ot
   abbrev o : ℕ
   o = other-of first (row t p)
 
-  not-ε : {i : ℕ} → i < n → (i ≡ 0 → ⊥) → tree-at t i ≡ ε → ⊥
-  not-ε l d e = d (rows-differ h l (h .some) (e ∙ sym (h .literal)))
-
   outside : (other ≡ 0 → ⊥) → (p ≡ other → ⊥) → ((row t p) .kind ≡ kind → o ≡ other → (m ≡ 0 → ⊥) → ⊥) → Lowers t n other kind first p Outside
   outside d d′ none x e = go (same x ε)
     where
       go : Dec (x ≡ ε) → ⊥
       go (yes q) = d′ (rows-differ h lp lo (sym e ∙ ap (beside s (tree-at t other) first) q ∙ beside-ε s (tree-at t other) first))
       go (no k) =
-          let paired = sym (beside-pair s (tree-at t other) first x (not-ε lo d) k) ∙ e in
+          let paired = sym (beside-pair s (tree-at t other) first x (not-ε h lo d) k) ∙ e in
           let kind-is = pair-row h lp s first (tree-at t other) x paired in
           let kind-is′ = kind-is ∙ sign-kind kind low high in
           let both = pair-same s first _ _ _ _ (paired ∙ row-pair h lp s kind-is (omega arith) (omega arith) first) in
@@ -112,7 +113,7 @@ module _ {t : Table} {n p other kind : ℕ} (h : Rows t n) (lp : p < n) (lo : ot
       let kind-is = e ∙ sym (sign-kind kind low high) in
       let within = children-in h lp s kind-is (omega arith) (omega arith) first in (
         within .0,
-        beside-pair s (tree-at t other) first (tree-at t m) (not-ε lo d) (not-ε (within .0) k)
+        beside-pair s (tree-at t other) first (tree-at t m) (not-ε h lo d) (not-ε h (within .0) k)
             ∙ ap (λ j. pair s (tree-at t j) first (tree-at t m)) (sym q) ∙ sym (row-pair h lp s kind-is (omega arith) (omega arith) first),
       )
 
@@ -138,3 +139,27 @@ module _ {t : Table} {n p other kind : ℕ} (h : Rows t n) (lp : p < n) (lo : ot
       at-literal true e =
           (lp, ap (λ z. beside s z first (tree-at t p)) (ap (tree-at t) (eqb-true _ _ e) ∙ h .literal) ∙ beside-literal s first (tree-at t p))
       at-literal false e = at-other (eqb-false _ _ e) (eqb p other) refl
+
+-- w is row p as the code has read it.
+module _ (t : Table) (other kind : ℕ) (first : Bool) (p : ℕ) where
+  pub lowered-literal : other ≡ 0 → Member p ≡ lowered t other kind first p
+  unfolding lowered
+  lowered-literal e = sym (simp (eq-eqb other 0 e))
+
+  module _ (d : other ≡ 0 → ⊥) where
+    pub lowered-other : p ≡ other → Member 0 ≡ lowered t other kind first p
+    unfolding lowered
+    lowered-other e = sym (simp (ne-eqb other 0 d, eq-eqb p other e))
+
+    module _ (k : p ≡ other → ⊥) {w : Row} (e : w ≡ row t p) where
+      pub lowered-kind : (w .kind ≡ kind → ⊥) → Outside ≡ lowered t other kind first p
+      unfolding lowered
+      lowered-kind q = sym (simp (ne-eqb other 0 d, ne-eqb p other k, ne-eqb ((row t p) .kind) kind (λ z. q (kind-at e ∙ z))))
+
+      pub lowered-kept : w .kind ≡ kind → (b : Bool) → first ≡ b → {r : Lowered}
+          → r ≡ choose (eqb (other-of b w) other && not (eqb (member-of b w) 0)) (Member (member-of b w)) Outside → r ≡ lowered t other kind first p
+      unfolding lowered
+      lowered-kept q b f h =
+          h
+          ∙ ap₂ (λ (c : Bool) (v : Row). choose (eqb (other-of c v) other && not (eqb (member-of c v) 0)) (Member (member-of c v)) Outside) (sym f) e
+          ∙ sym (simp (ne-eqb other 0 d, ne-eqb p other k, eq-eqb ((row t p) .kind) kind (sym (kind-at e) ∙ q)))
