@@ -5,4 +5,5 @@ pub mod Joining
 pub mod Lifting
 pub mod Listing
 pub mod Lowering
+pub mod Membership
 pub mod Siding
