@@ -6,4 +6,7 @@ pub mod Lifting
 pub mod Listing
 pub mod Lowering
 pub mod Membership
+pub mod Needing
+pub mod Placing
+pub mod SideStep
 pub mod Siding

@@ -80,12 +80,15 @@ Place-within t (Behind p) = (p < length (t .kind)) × (p < length (t .left)) × 
 
 -- What a step gives where xs are the members to come of the list ms: the first of xs, as a row, or the end. Rows that came are parts of
 -- members of ms.
-abbrev pub Gives : Table → ℕ → ℕ → List Expression → List Expression → Stepped → Table → Type 0
-Gives t n room ms xs (Found i n′) t′ =
+abbrev pub Outcome : Table → ℕ → ℕ → List Expression → List Expression → Stepped → Table → Type 0
+Outcome t n room ms xs (Found i n′) t′ =
     Grown t n t′ n′ × (n′ ≤ room) × (i < n′) × (first-of xs ≡ some (tree-at t′ i)) × ((z : Expression) → List·Memᴰ z (trees t′ n′) → Needed t n ms z)
-Gives t n room ms xs (End n′) t′ =
+Outcome t n room ms xs (End n′) t′ =
     Grown t n t′ n′ × (n′ ≤ room) × (first-of xs ≡ none) × ((z : Expression) → List·Memᴰ z (trees t′ n′) → Needed t n ms z)
-Gives t n room ms xs NoRoom t′ = Short room (Needed t n ms)
+Outcome t n room ms xs NoRoom t′ = Short room (Needed t n ms)
+
+pub record Gives (t : Table) (n room : ℕ) (ms xs : List Expression) (r : Stepped) (t′ : Table) : Type 0 where
+  pub outcome : Outcome t n room ms xs r t′
 
 -- A step along the list ms from a place in it.
 abbrev pub Steps : Table → ℕ → ℕ → List Expression → Place → Stepped → Table → Type 0
