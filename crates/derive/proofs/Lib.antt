@@ -1,4 +1,5 @@
 pub mod Answering
+pub mod FreshStep
 pub mod Growing
 pub mod Interning
 pub mod Joining
@@ -8,5 +9,6 @@ pub mod Lowering
 pub mod Membership
 pub mod Needing
 pub mod Placing
+pub mod RowStep
 pub mod SideStep
 pub mod Siding

@@ -53,7 +53,7 @@ module _ {t : Table} {n child other kind : ℕ} (h : Rows t n) (first : Bool) (w
   place-well Start i = (tt, refl)
   place-well (Behind p) i = behind-well p (i .0) (i .1) (lowered t other kind first p) (lowers h (i .0) (w .1) (w .2) (w .3) first)
 
-to-come-within : (t : Table) (n : ℕ) (p : Place) (ms : List Expression) {z : Expression} → List·Memᴰ z (to-come t p ms) → List·Memᴰ z ms
+pub to-come-within : (t : Table) (n : ℕ) (p : Place) (ms : List Expression) {z : Expression} → List·Memᴰ z (to-come t p ms) → List·Memᴰ z ms
 to-come-within t n Start ms m = m
 to-come-within t n (Behind p) ms m = behind-within (tree-at t p) ms _ m
 
