@@ -16,7 +16,7 @@ use Rattle.derive.specs.declared.walk.Stepped.{Stepped}
 use Rattle.derive.specs.declared.walk.Stepped.the-variants.{Found, End, NoRoom}
 use Rattle.derive.specs.Rows.{Rows, Grown, Needed, Short}
 use Rattle.derive.specs.Sides.{Within-row, side-list}
-use Rattle.derive.specs.Walk.{behind, beyond, first-of, to-come, In-list, Outcome, Gives, Steps}
+use Rattle.derive.specs.Walk.{behind, beyond, first-of, to-come, In-list, Side-among, Outcome, Gives, Steps}
 use Rattle.derive.proofs.Growing.{grown-none, grown-trans, grown-tree}
 use Rattle.derive.proofs.Listing.{first-none, first-some, first-member, behind-head, behind-next, beyond-nil, beyond-keep, beyond-pass}
 use Rattle.derive.proofs.Needing.{short-more, needed-later, grown-list, grown-side, grown-place}
@@ -105,3 +105,41 @@ module _ {t : Table} {n room : ℕ} {xs ms : List Expression} {p : Place} {t′ 
         );
       }
   fresh-ended NoRoom d g = record { outcome = short-more later (g .outcome) }
+
+-- ---- A turn of the walk, over the sides as they are once rows have come
+
+module _ (a : ℕ) (x y : Side) {t : Table} {n room : ℕ} (wx : Within-row n n x) (wy : Within-row n n y) {p : Place} {t′ : Table} {n′ : ℕ} {p′ : Place}
+    (k : Passed-over t n room (side-list a t x) (side-list a t y) p t′ n′ p′) where
+  pub turn-place : In-list t′ n′ p′ (side-list a t′ y)
+  turn-place = subst (In-list t′ n′ p′) (sym (grown-list (k .grown) a y wy)) (k .place)
+
+  pub turn-side : Within-row n′ n′ y
+  turn-side = grown-side (k .grown) y wy
+
+  module _ {s : Stepped} {t″ : Table} (g : Steps t′ n′ room (side-list a t′ y) p′ s t″) where
+    then : Steps t′ n′ room (side-list a t y) p′ s t″
+    then = subst (λ ms. Steps t′ n′ room ms p′ s t″) (grown-list (k .grown) a y wy) g
+
+    module _ {row u : ℕ} (e : s ≡ Found row u) where
+      left-then : side-list a t″ x ≡ side-list a t x
+      left-then = grown-list (found-grown (side-no-repeats a t y) k then e) a x wx
+
+      pub turn-asks : Side-among t″ x row
+      turn-asks = (
+        u,
+        found-rows (side-no-repeats a t y) k then e,
+        grown-side (found-grown (side-no-repeats a t y) k then e) x wx,
+        found-within (side-no-repeats a t y) k then e,
+      )
+
+      pub turn-found : (List·Memᴰ (tree-at t″ row) (side-list a t″ x) → ⊥) → Gives t n room (side-list a t y) (beyond (side-list a t x) (to-come t p (side-list a t y))) (Found row u) t″
+      turn-found d = fresh-found (side-no-repeats a t y) k then e (λ m. d (subst (List·Memᴰ (tree-at t″ row)) (sym left-then) m))
+
+      pub turn-passed : List·Memᴰ (tree-at t″ row) (side-list a t″ x) → Passed-over t n room (side-list a t x) (side-list a t y) p t″ u (Behind row)
+      turn-passed m = fresh-passed (side-no-repeats a t y) k then e (subst (List·Memᴰ (tree-at t″ row)) left-then m)
+
+      pub turn-less : length (to-come t″ (Behind row) (side-list a t y)) < length (to-come t′ p′ (side-list a t y))
+      turn-less = fresh-less (side-no-repeats a t y) k then e
+
+    pub turn-ended : ((row u : ℕ) → s ≡ Found row u → ⊥) → Gives t n room (side-list a t y) (beyond (side-list a t x) (to-come t p (side-list a t y))) s t″
+    turn-ended d = fresh-ended (side-no-repeats a t y) k s d then
