@@ -22,10 +22,10 @@ sound-to-less s l =
 
 -- w is row i as the code has read it.
 module _ {t : Table} {i : ℕ} {w : Row} (s : SoundTo t i) (e : w ≡ row t i) where
-  sound-read : Sound i w
+  pub sound-read : Sound i w
   sound-read = subst (Sound i) (sym e) (s .sound i (le-refl (suc i)))
 
-  kind-read : {k : ℕ} → w .kind ≡ k → (row t i) .kind ≡ k
+  pub kind-read : {k : ℕ} → w .kind ≡ k → (row t i) .kind ≡ k
   kind-read q = sym (ap (λ (v : Row). v .kind) e) ∙ q
 
   pub left-below : 3 ≤ w .kind → w .left < i

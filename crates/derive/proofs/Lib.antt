@@ -12,3 +12,4 @@ pub mod Placing
 pub mod RowStep
 pub mod SideStep
 pub mod Siding
+pub mod Taking

@@ -1,2 +1,9 @@
 pub mod Words
 pub mod Turn
+pub mod Passed
+pub mod Spread
+pub mod Place
+pub mod Walk
+pub mod Refused
+pub mod Answered
+pub mod Judging

@@ -1,17 +1,17 @@
 -- The digits of a word and the bits of a column of words: what a store changes, what is set where a word is not 0, and how many.
 -- Assumes nothing.
-use Prim.Native.Nat.{ℕ, zero, suc, _+_, _-_, _*_, _/_, _%_, _^_, _≤_, _<_, max}
-use native.Mathlib.Nat.{le-refl, mod-lt, zero-lt-suc, zero-div, div-self, div-one, zero-add, pow-suc, mul-comm, div-eq-of-lt, not-suc-le-zero, add-zero, mul-one, one-mul}
+use Prim.Native.Nat.{ℕ, zero, suc, _+_, _*_, _/_, _%_, _^_, _<_, max}
+use native.Mathlib.Nat.{mod-lt, zero-div, div-self, div-one, zero-add, pow-suc}
 use native.Mathlib.Decide.{ℕ-discrete}
 use native.Mathlib.Numerals.{add-one, one-add}
 use native.Mathlib.Omega.{arith}
 use mathlib.Core.Path.{_≡_, refl, sym, ap, ap₂, _∙_, subst}
-use mathlib.Core.Bool.{Bool, true, false, cond, not, _||_}
-use mathlib.Core.List.{List, [], _∷_}
+use mathlib.Core.Bool.{Bool, true, false, cond, not, _||_, or-false}
+use mathlib.Core.List.{List}
 use lib.ListN.{length, getD, set}
 use lib.Seq.{getD-set-same, getD-set-other}
-use lib.Dec.{eqb, ltb, lit<}
-use lib.Pow.{pow-pos, shr-shr, shr-lt, shl-shr, pow-lt}
+use lib.Dec.{eqb, lit<}
+use lib.Pow.{pow-pos, shr-shr, shr-lt, shl-shr}
 use lib.Bits.{bitOr, or-step, or-shr}
 use lib.Count.{ones, onesIn, ones-step}
 use borrow.Author.Tests.{eq-eqb, ne-eqb, eqb-true, eqb-false}
@@ -140,13 +140,9 @@ bit-mark words state l t = go (ℕ-discrete (t / 64) (state / 64)) (ℕ-discrete
     word : ℕ
     word = getD words (state / 64) 0
 
-    or-none : (b : Bool) → b ≡ (b || false)
-    or-none true = refl
-    or-none false = refl
-
     go : Dec (t / 64 ≡ state / 64) → Dec (t % 64 ≡ state % 64) → bit marked t ≡ (bit words t || eqb t state)
     go (no n) d =
-        bit-away words (state / 64) _ t n ∙ or-none (bit words t)
+        bit-away words (state / 64) _ t n ∙ sym (or-false (bit words t))
         ∙ ap (λ (b : Bool). bit words t || b) (sym (ne-eqb t state (λ e. n (ap (λ (k : ℕ). k / 64) e))))
     go (yes e) d =
         bit-here words (state / 64) _ t l e ∙ digit-or word (2 ^ (state % 64)) (t % 64)

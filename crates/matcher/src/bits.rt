@@ -1,8 +1,8 @@
 // A set of states in 64-bit words, one bit per state.
 
 ghost use mathlib.Core.Path.{_≡_};
-ghost use mathlib.Core.Bool.{Bool, false, cond, _||_};
-ghost use Prim.Native.Nat.{ℕ, _+_, _*_, _/_, _≤_, _<_};
+ghost use mathlib.Core.Bool.{false, cond, _||_};
+ghost use Prim.Native.Nat.{ℕ, _*_, _/_, _≤_, _<_};
 ghost use lib.ListN.{length};
 ghost use lib.Dec.{eqb, ltb};
 ghost use Rattle.theory.specs.Record.{some-below, count-below};
@@ -23,20 +23,21 @@ pub fn mark(words: &mut [u64], state: usize)
     words[word] = words[word] | (1u64 << (state % 64));
 }
 
-// 01: `live` is "the number of set state bits after the last byte".
-pub fn count(words: &[u64]) -> usize
-    ensures { λ r. ⌜ r ≡ count-below (length (now (words .entry)) * 64) (bit (now (words .entry))) ⌝ }
+// The set bits of the first n words. 1,024 words hold every state that 01 allows.
+pub fn count(n: usize, words: &[u64]) -> usize
+    requires { ⌜ (n ≤ length (now words)) × (n ≤ 1024) ⌝ }
+    ensures { λ r. ⌜ r ≡ count-below (n * 64) (bit (now (words .entry))) ⌝ }
 {
-    let mut n: usize = 0;
+    let mut ones: usize = 0;
     let mut i = 0;
-    while i < words.len() {
-        n += u64::count_ones(words[i]) as usize;
+    while i < n {
+        ones += u64::count_ones(words[i]) as usize;
         i += 1;
     }
-    n
+    ones
 }
 
-// The first n words of `next` are handed to `now` and cleared. Whether one of their bits was set.
+// The first n words of `next` are handed to `current` and cleared. The answer: whether one of their bits was set.
 pub fn turn(n: usize, current: &mut [u64], next: &mut [u64]) -> bool
     requires { ⌜ (n ≤ length (now current)) × (n ≤ length (now next)) ⌝ }
     ensures handed { λ _. ⌜ ((t : ℕ) → bit (now (current .exit)) t ≡ cond (ltb (t / 64) n) (bit (now (next .entry)) t) (bit (now (current .entry)) t)) ⌝ }

@@ -5,7 +5,7 @@ ghost use mathlib.Core.Bool.{not, _&&_};
 ghost use Prim.Native.Nat.{_≤_, _<_};
 ghost use lib.ListN.{length, getD};
 ghost use lib.Dec.{leb, ltb, eqb};
-ghost use Rattle.theory.specs.Record.{handed, all-below, accepting-fits, ends-fit, well-formed, matcher-refusal};
+ghost use Rattle.theory.specs.Record.{handed, all-below, matcher-refusal};
 
 fn accepting_fits(states: usize, accepting: &[u8]) -> bool
     requires { ⌜ states ≤ length (now accepting) ⌝ }
@@ -37,7 +37,7 @@ fn ends_fit(states: usize, arcs: usize, from: &[u16], letter: &[u8], to: &[u16])
     fit
 }
 
-// The number of the refusal, or 0.
+// The number of the refusal, or 0. The work columns have `current` and `next` words.
 pub fn refusal(
     states: usize,
     accepting: &[u8],
@@ -45,25 +45,29 @@ pub fn refusal(
     from: &[u16],
     letter: &[u8],
     to: &[u16],
-    current_words: usize,
-    next_words: usize,
-) -> u8 {
-    if letter.len() != from.len() || to.len() != from.len() {
+    current: usize,
+    next: usize,
+) -> u8
+    ensures { λ r.
+        ⌜ r
+        ≡ (matcher-refusal
+        (handed states (now (accepting .entry)) arcs (now (from .entry)) (now (letter .entry)) (now (to .entry)))
+        current next) .number ⌝ }
+{
+    let alike = (letter.len() == from.len()) & (to.len() == from.len());
+    if !alike {
         return 1;
     }
-    if states == 0
-        || 65535 < states
-        || accepting.len() < states
-        || from.len() < arcs
-        || 16777216 < arcs
-    {
+    let states_fit = (states != 0) & (states <= 65535) & (states <= accepting.len());
+    let arcs_fit = (arcs <= from.len()) & (arcs <= 16777216);
+    if !(states_fit & arcs_fit) {
         return 10;
     }
-    if !accepting_fits(states, accepting) || !ends_fit(states, arcs, from, letter, to) {
+    if !(accepting_fits(states, accepting) & ends_fit(states, arcs, from, letter, to)) {
         return 10;
     }
     let words = (states + 63) / 64;
-    if current_words < words || next_words < words {
+    if (current < words) | (next < words) {
         return 11;
     }
     0

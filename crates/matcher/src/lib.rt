@@ -4,7 +4,9 @@ mod bits;
 mod checks;
 mod moves;
 
+ghost use mathlib.Core.Path.{_≡_};
 ghost use lib.ListN.{length};
+ghost use Rattle.theory.specs.Column.{zeros};
 ghost use Rattle.theory.specs.Record.{handed};
 ghost use Rattle.theory.specs.Judge.{Judged};
 ghost use Rattle.matcher.specs.Answer.{values};
@@ -15,6 +17,15 @@ pub enum Judgement {
     Accepted { live: usize },
     Unfinished { live: usize },
     Wrong { place: usize },
+}
+
+// 01: "Work columns are zero afterwards."
+fn clear(current: &mut [u64], next: &mut [u64])
+    ensures current { λ _. ⌜ now (current .exit) ≡ zeros (length (now (current .entry))) ⌝ }
+    ensures next { λ _. ⌜ now (next .exit) ≡ zeros (length (now (next .entry))) ⌝ }
+{
+    columns::clear64(current);
+    columns::clear64(next);
 }
 
 pub fn judge(
@@ -42,8 +53,7 @@ pub fn judge(
         current.len(),
         next.len(),
     );
-    columns::clear64(current);
-    columns::clear64(next);
+    clear(current, next);
     if number != 0 {
         return Judgement::Refused { number };
     }
@@ -59,7 +69,6 @@ pub fn judge(
         current,
         next,
     );
-    columns::clear64(current);
-    columns::clear64(next);
+    clear(current, next);
     answer
 }

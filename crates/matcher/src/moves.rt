@@ -2,7 +2,19 @@
 
 use columns::Cursor;
 use columns::Step;
+ghost use mathlib.Core.Path.{_≡_};
+ghost use mathlib.Core.Bool.{_&&_, _||_};
+ghost use mathlib.Core.List.{List};
+ghost use Prim.Native.Nat.{ℕ, _≤_};
+ghost use lib.ListN.{length, getD};
+ghost use lib.Dec.{eqb};
+ghost use Rattle.theory.specs.Record.{handed, words, some-below, leads, verdict, live};
+ghost use Rattle.theory.specs.Judge.{given};
+ghost use Rattle.matcher.specs.Bits.{bit};
+ghost use Rattle.matcher.specs.Moves.{Inside, Checked, Ready, Ended};
+ghost use Rattle.matcher.specs.Answer.{values};
 
+// One pass over the arcs: the ends of those that lead by the byte from a state of `current` are set in `next`.
 fn spread(
     arcs: usize,
     from: &[u16],
@@ -11,7 +23,14 @@ fn spread(
     byte: u8,
     current: &[u64],
     next: &mut [u64],
-) {
+)
+    requires { ⌜ Inside arcs (now from) (now letter) (now to) (now current) (now next) ⌝ }
+    ensures { λ _.
+        ⌜ ((t : ℕ) → bit (now (next .exit)) t
+        ≡ (bit (now (next .entry)) t
+        || some-below arcs
+        (leads (now (from .entry)) (now (letter .entry)) (now (to .entry)) (bit (now (current .entry))) byte t))) ⌝ }
+{
     let mut i = 0;
     while i < arcs {
         if letter[i] == byte {
@@ -23,11 +42,13 @@ fn spread(
     }
 }
 
+// How a walk over a record ends: with its last byte, or at the first byte after which no state is reached.
 pub enum Walked {
     Whole,
     Dead { place: usize },
 }
 
+// Whatever the accepting column, which no move looks at.
 fn walk(
     states: usize,
     arcs: usize,
@@ -37,7 +58,14 @@ fn walk(
     record: &[u8],
     current: &mut [u64],
     next: &mut [u64],
-) -> Walked {
+) -> Walked
+    requires { ⌜ Checked states arcs (now from) (now letter) (now to) (now current) (now next) ⌝ }
+    requires { ⌜ Ready (now current) (now next) ⌝ }
+    ensures { λ r.
+        ⌜ ((accepting : List ℕ) →
+        Ended (handed states accepting arcs (now (from .entry)) (now (letter .entry)) (now (to .entry)))
+        (now («record» .entry)) r (now (current .exit))) ⌝ }
+{
     let words = (states + 63) / 64;
     let mut cursor = Cursor::start();
     loop {
@@ -53,17 +81,18 @@ fn walk(
     }
 }
 
-fn accepts(states: usize, accepting: &[u8], current: &[u64]) -> bool {
+fn accepts(states: usize, accepting: &[u8], current: &[u64]) -> bool
+    requires { ⌜ (states ≤ length (now accepting)) × (words states ≤ length (now current)) ⌝ }
+    ensures { λ r.
+        ⌜ r ≡ some-below states (λ t. bit (now (current .entry)) t && eqb (getD (now (accepting .entry)) t 0) 1) ⌝ }
+{
+    let mut any = false;
     let mut t = 0;
     while t < states {
-        if accepting[t] == 1 {
-            if super::bits::marked(current, t) {
-                return true;
-            }
-        }
+        any = any | (super::bits::marked(current, t) & (accepting[t] == 1));
         t += 1;
     }
-    false
+    any
 }
 
 pub fn follow(
@@ -76,11 +105,23 @@ pub fn follow(
     record: &[u8],
     current: &mut [u64],
     next: &mut [u64],
-) -> super::Judgement {
+) -> super::Judgement
+    requires { ⌜ states ≤ length (now accepting) ⌝ }
+    requires { ⌜ Checked states arcs (now from) (now letter) (now to) (now current) (now next) ⌝ }
+    requires { ⌜ Ready (now current) (now next) ⌝ }
+    ensures { λ r.
+        ⌜ values r
+        ≡ given
+        (verdict (handed states (now (accepting .entry)) arcs (now (from .entry)) (now (letter .entry)) (now (to .entry)))
+        (now («record» .entry)))
+        (live (handed states (now (accepting .entry)) arcs (now (from .entry)) (now (letter .entry)) (now (to .entry)))
+        (now («record» .entry))) ⌝ }
+{
     match walk(states, arcs, from, letter, to, record, current, next) {
         Walked::Dead { place } => super::Judgement::Wrong { place },
         Walked::Whole => {
-            let live = super::bits::count(current);
+            // 01: `live` is "the number of set state bits after the last byte".
+            let live = super::bits::count((states + 63) / 64, current);
             if accepts(states, accepting, current) {
                 super::Judgement::Accepted { live }
             } else {

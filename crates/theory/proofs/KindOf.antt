@@ -11,7 +11,7 @@ use Rattle.theory.proofs.Rows.Trees.{sign-meaning}
 
 -- ---- What a row may be
 
-sign-kinds : (s : Sign) → (3 ≤ kind-of-sign s) × (kind-of-sign s ≤ 5)
+pub sign-kinds : (s : Sign) → (3 ≤ kind-of-sign s) × (kind-of-sign s ≤ 5)
 unfolding kind-of-sign
 sign-kinds union = (omega arith, omega arith)
 sign-kinds concatenation = (omega arith, omega arith)

@@ -1,4 +1,5 @@
 pub mod Below
+pub mod Reached
 pub mod Distinct
 pub mod Members
 pub mod Language
@@ -6,8 +7,11 @@ pub mod Derivative
 pub mod Support
 pub mod States
 pub mod Bounds
+pub mod Meetings
+pub mod Nearing
 pub mod Trees
 pub mod Grammar
+pub mod Scan
 pub mod Rows
 pub mod Sound
 pub mod KindOf
@@ -16,5 +20,6 @@ pub mod Sum
 pub mod Times
 pub mod FirstFault
 pub mod TableRefusal
+pub mod Used
 pub mod WellFormed
 pub mod Examples

@@ -10,4 +10,5 @@ pub mod Grammar
 pub mod Scan
 pub mod Record
 pub mod Read
+pub mod Build
 pub mod Judge

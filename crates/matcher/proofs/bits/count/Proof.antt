@@ -1,58 +1,64 @@
+-- `bits::count` meets its contract: the bits of the words passed are counted.
 use borrow.Author.Needs.{needs}
-use Prim.Native.Nat.{ℕ, _+_, _*_, _≤_, _-_}
-use mathlib.Core.Path.{_≡_, refl, sym, ap, _∙_}
+use Prim.Native.Nat.{ℕ, _+_, _-_, _*_, _^_, _≤_, _<_}
 use native.Mathlib.Omega.{arith}
-use lib.ListN.{length}
-use lib.Count.{ones, ones-le}
+use mathlib.Core.Path.{_≡_, sym, ap, _∙_}
+use lib.ListN.{getD}
+use lib.Count.{ones as ones-of, ones-le}
 use Rattle.theory.specs.Record.{count-below}
 use Rattle.matcher.specs.Bits.{bit}
 use Rattle.matcher.proofs.Words.{count-block}
+use Rattle.matcher.proofs.Passed.{at-end}
 use Rattle.matcher.proofs.bits.count.Statement.{statement}
 use Rattle.matcher.proofs.bits.count.Tie as tie
-use Rattle.matcher.proofs.bits.count.Reads as reads
-use Rattle.matcher.proofs.bits.count.Lts as lts
 
 abbrev Inv-loop : tie.InvT-loop
-Inv-loop words n₀ i₀ n i = (i ≤ length words) × (n ≤ i * 64) × (n ≡ count-below (i * 64) (bit words))
+Inv-loop n words ones₀ i₀ ones i = (i ≤ n) × (ones ≤ i * 64) × (ones ≡ count-below (i * 64) (bit words))
 
 abbrev μ-loop : tie.MeasureT-loop
-μ-loop words n₀ i₀ n i = length words - i
+μ-loop n words ones₀ i₀ ones i = n - i
 
--- src/bits.rt:32:5
 loop-holds : tie.Need-loop-holds Inv-loop μ-loop
+unfolding count-below
 loop-holds c = search needs
 
--- src/bits.rt:33:30
-mul-n : tie.Need-mul-n Inv-loop μ-loop
-mul-n c = search needs
+mul-ones : tie.Need-mul-ones Inv-loop μ-loop
+mul-ones c = search needs
 
--- src/bits.rt:33:30
-shared-slice-read-n : tie.Need-shared-slice-read-n Inv-loop μ-loop
-shared-slice-read-n c = search needs
+shared-slice-read-ones : tie.Need-shared-slice-read-ones Inv-loop μ-loop
+shared-slice-read-ones c = search needs
 
--- src/bits.rt:33:14
-cast-n : tie.Need-cast-n Inv-loop μ-loop
-cast-n c = search needs
+abbrev word : tie.After-shared-slice-known Inv-loop μ-loop → ℕ
+word c = getD (c .before .before .before .args .words .now) (c .before .before .loop .i) 0
 
--- src/bits.rt:33:9
-add-n : tie.Need-add-n Inv-loop μ-loop
-add-n c = search needs
+word-fits : (c : tie.After-shared-slice-known Inv-loop μ-loop) → word c < 2 ^ 64
+word-fits c = omega (arith, c .shared-slice-known .given (c .before .before .loop .i))
 
--- src/bits.rt:34:9
+ones-few : (c : tie.After-shared-slice-known Inv-loop μ-loop) → ones-of (word c) ≤ 64
+ones-few c = ones-le 64 (word c) (word-fits c)
+
+cast-ones : tie.Need-cast-ones Inv-loop μ-loop
+cast-ones c = omega (arith, ones-few c)
+
+add-ones : tie.Need-add-ones Inv-loop μ-loop
+add-ones c = omega (arith, ones-few c)
+
 add-i : tie.Need-add-i Inv-loop μ-loop
 add-i c = search needs
 
--- src/bits.rt:32:5
 loop-less : tie.Need-loop-less Inv-loop μ-loop
 loop-less c = search needs
 
--- src/bits.rt:32:5
 loop-again : tie.Need-loop-again Inv-loop μ-loop
-loop-again c = search needs
+loop-again c = (
+  omega arith,
+  omega (arith, ones-few c),
+  ap (λ (n : ℕ). n + ones-of (word c)) (c .before .before .loop .inv .2) ∙ sym (count-block (c .before .before .before .args .words .now) (c .before .before .loop .i) (word-fits c)),
+)
 
--- src/bits.rt:27:1
 returns : tie.Need-returns Inv-loop μ-loop
-returns c = search needs
+returns c =
+    at-end (λ (i : ℕ). count-below (i * 64) (bit (c .before .before .args .words .now))) (c .before .loop .inv .2) (c .before .loop .inv .0) (c .loop-test .left)
 
 pub count-spec : {M : Type 1} → statement M
 count-spec =
@@ -61,10 +67,10 @@ count-spec =
     Inv-loop
     μ-loop
     loop-holds
-    mul-n
-    shared-slice-read-n
-    cast-n
-    add-n
+    mul-ones
+    shared-slice-read-ones
+    cast-ones
+    add-ones
     add-i
     loop-less
     loop-again

@@ -1,12 +1,10 @@
+-- `bits::turn` meets its contract: after i turns the first i words are handed over and cleared.
 use borrow.Author.Needs.{needs}
 use Prim.Native.Nat.{_≤_, _-_}
 use native.Mathlib.Omega.{arith}
-use lib.ListN.{length, length-set}
-use Rattle.matcher.proofs.Turn.{Turned, turned-none, turned-more}
+use Rattle.matcher.proofs.Turn.{Turned, turned-none, turned-more, turned-end}
 use Rattle.matcher.proofs.bits.turn.Statement.{statement}
 use Rattle.matcher.proofs.bits.turn.Tie as tie
-use Rattle.matcher.proofs.bits.turn.Reads as reads
-use Rattle.matcher.proofs.bits.turn.Lts as lts
 
 abbrev Inv-loop : tie.InvT-loop
 Inv-loop n current₀ next₀ any₀ i₀ current next any i = (i ≤ n) × Turned current₀ next₀ current next any i
@@ -14,57 +12,51 @@ Inv-loop n current₀ next₀ any₀ i₀ current next any i = (i ≤ n) × Turn
 abbrev μ-loop : tie.MeasureT-loop
 μ-loop n current₀ next₀ any₀ i₀ current next any i = n - i
 
--- src/bits.rt:48:5
 loop-holds : tie.Need-loop-holds Inv-loop μ-loop
 loop-holds c = (omega arith, turned-none _ _)
 
--- src/bits.rt:49:20
 mul-word : tie.Need-mul-word Inv-loop μ-loop
 mul-word c = search needs
 
--- src/bits.rt:49:20
 slice-read-word : tie.Need-slice-read-word Inv-loop μ-loop
 slice-read-word c = search needs
 
--- src/bits.rt:51:9
 mul-current : tie.Need-mul-current Inv-loop μ-loop
 mul-current c = search needs
 
--- src/bits.rt:51:9
 slice-write-current : tie.Need-slice-write-current Inv-loop μ-loop
 slice-write-current c = search needs
 
--- src/bits.rt:52:9
 mul-next : tie.Need-mul-next Inv-loop μ-loop
 mul-next c = search needs
 
--- src/bits.rt:52:9
 slice-write-next : tie.Need-slice-write-next Inv-loop μ-loop
 slice-write-next c = search needs
 
--- src/bits.rt:53:9
 add-i : tie.Need-add-i Inv-loop μ-loop
 add-i c = search needs
 
--- src/bits.rt:48:5
 loop-less : tie.Need-loop-less Inv-loop μ-loop
 loop-less c = search needs
 
--- src/bits.rt:48:5
 loop-again : tie.Need-loop-again Inv-loop μ-loop
-loop-again c = search needs
+loop-again c =
+    let r = c .before .before .loop .inv .1 in (
+      omega arith,
+      turned-more r (omega (arith, r .current-length)) (omega (arith, r .next-length))
+          (omega (arith, c .slice-known .given (c .before .before .loop .i))),
+    )
 
--- src/bits.rt:40:1
 same-length : tie.Need-same-length Inv-loop μ-loop
 same-length c = search needs
 
--- src/bits.rt:40:1
 same-length-2 : tie.Need-same-length-2 Inv-loop μ-loop
 same-length-2 c = search needs
 
--- src/bits.rt:40:1
 returns : tie.Need-returns Inv-loop μ-loop
-returns c = search needs
+returns c =
+    let r = turned-end (c .before .loop .inv .1) (c .before .loop .inv .0) (c .loop-test .left) in
+    (r .handed, (r .cleared, r .set-so-far))
 
 pub turn-spec : {M : Type 1} → statement M
 turn-spec =

@@ -1,17 +1,14 @@
+-- `checks::accepting_fits` meets its contract: the answer is that of the values passed.
 use borrow.Author.Needs.{needs}
-use Prim.Native.Nat.{ℕ}
 use Prim.Native.Nat.{_≤_, _-_}
-use mathlib.Core.Path.{_≡_, refl, sym, ap, _∙_}
-use mathlib.Core.Bool.{Bool, _&&_}
+use mathlib.Core.Path.{_≡_}
 use lib.ListN.{getD}
 use lib.Dec.{leb}
 use native.Mathlib.Omega.{arith}
 use Rattle.theory.specs.Record.{all-below}
-use Rattle.theory.proofs.Below.{all-more}
+use Rattle.matcher.proofs.Passed.{all-next, all-end}
 use Rattle.matcher.proofs.checks.accepting_fits.Statement.{statement}
 use Rattle.matcher.proofs.checks.accepting_fits.Tie as tie
-use Rattle.matcher.proofs.checks.accepting_fits.Reads as reads
-use Rattle.matcher.proofs.checks.accepting_fits.Lts as lts
 
 abbrev Inv-loop : tie.InvT-loop
 Inv-loop states accepting fit₀ t₀ fit t = (t ≤ states) × (fit ≡ all-below t (λ k. leb (getD accepting k 0) 1))
@@ -19,36 +16,24 @@ Inv-loop states accepting fit₀ t₀ fit t = (t ≤ states) × (fit ≡ all-bel
 abbrev μ-loop : tie.MeasureT-loop
 μ-loop states accepting fit₀ t₀ fit t = states - t
 
--- src/checks.rt:16:5
 loop-holds : tie.Need-loop-holds Inv-loop μ-loop
 unfolding all-below
 loop-holds c = search needs
 
--- src/checks.rt:17:22
 shared-slice-read-fit : tie.Need-shared-slice-read-fit Inv-loop μ-loop
 shared-slice-read-fit c = search needs
 
--- src/checks.rt:18:9
 add-t : tie.Need-add-t Inv-loop μ-loop
 add-t c = search needs
 
--- src/checks.rt:16:5
 loop-less : tie.Need-loop-less Inv-loop μ-loop
 loop-less c = search needs
 
--- src/checks.rt:16:5
 loop-again : tie.Need-loop-again Inv-loop μ-loop
-loop-again c = (
-  omega arith,
-  ap (λ (b : Bool). b && leb (getD (c .before .before .before .args .accepting .now) (c .before .before .loop .t) 0) 1) (c .before .before .loop .inv .1)
-      ∙ sym (all-more (c .before .before .loop .t) _),
-)
+loop-again c = (omega arith, all-next _ _ (c .before .before .loop .inv .1))
 
--- src/checks.rt:10:1
 returns : tie.Need-returns Inv-loop μ-loop
-returns c =
-    let end : c .before .loop .t ≡ c .before .before .args .states = omega arith in
-    c .before .loop .inv .1 ∙ ap (λ (n : ℕ). all-below n _) end
+returns c = all-end _ (c .before .loop .inv .1) (c .before .loop .inv .0) (c .loop-test .left)
 
 pub accepting-fits-spec : {M : Type 1} → statement M
 accepting-fits-spec =

@@ -1,0 +1,95 @@
+-- The bytes that are an expression by themselves, and those that no expression begins with. Assumes nothing.
+use Prim.Native.Nat.{ℕ}
+use mathlib.Core.Path.{_≡_, refl, sym, ap, subst, _∙_}
+use mathlib.Core.Bool.{true, false}
+use mathlib.Core.List.{List, [], _∷_}
+use mathlib.Core.Option.{none, some}
+use lib.ListN.{length}
+use lib.Dec.{T}
+use Rattle.theory.specs.Expression.{Expression, ε, letter, entries}
+use Rattle.theory.specs.Grammar.{byte-open, byte-0, byte-1, is-letter, makes-entry}
+use Rattle.theory.specs.Scan.{Token, opening, closing, starring, zero, unit, other, signing, naming, token, Frame, before, behind, next}
+use Rattle.theory.proofs.Grammar.Bytes.{Made-of, token-made-of, letter-not, token-letter}
+use Rattle.reader.specs.Found.{leaf-of}
+
+pub leaf-next : (fs : List Frame) (k : Token) (e : Expression) → leaf-of k ≡ some e → next (before fs) k ≡ some (behind e fs)
+unfolding next leaf-of
+leaf-next fs opening e h = cc
+leaf-next fs closing e h = cc
+leaf-next fs starring e h = cc
+leaf-next fs zero e h = cc
+leaf-next fs unit e h = cc
+leaf-next fs other e h = cc
+leaf-next fs (signing s) e h = cc
+leaf-next fs (naming a) e h = cc
+
+pub leaf-none : (fs : List Frame) (b : ℕ) → leaf-of (token b) ≡ none → (b ≡ byte-open → ⊥) → (length fs ≡ 0 → b ≡ byte-0 → ⊥)
+    → next (before fs) (token b) ≡ none
+unfolding next leaf-of
+leaf-none fs b h o z = go fs (token b) (token-made-of b) h z
+  where
+    go : (gs : List Frame) (k : Token) → Made-of k b → leaf-of k ≡ none → (length gs ≡ 0 → b ≡ byte-0 → ⊥) → next (before gs) k ≡ none
+    go gs opening m h z = absurd (o m)
+    go gs closing m h z = refl
+    go gs starring m h z = refl
+    go [] zero m h z = absurd (z refl m)
+    go (f ∷ gs) zero m h z = refl
+    go gs unit m h z = cc
+    go gs other m h z = refl
+    go gs (signing s) m h z = refl
+    go gs (naming a) m h z = cc
+
+pub leaf-makes : (b : ℕ) (e : Expression) → leaf-of (token b) ≡ some e → makes-entry b ≡ true
+unfolding leaf-of makes-entry
+leaf-makes b e h = go (token b) (token-made-of b) h
+  where
+    letter-makes : (a : ℕ) → T (is-letter a) → makes-entry a ≡ true
+    letter-makes a i = let no = letter-not a i in rw (no 40 tt, no 43 tt, no 46 tt, no 38 tt)
+
+    go : (k : Token) → Made-of k b → leaf-of k ≡ some e → makes-entry b ≡ true
+    go opening m h = cc
+    go closing m h = cc
+    go starring m h = cc
+    go zero m h = cc
+    go unit m h = rw m
+    go other m h = cc
+    go (signing s) m h = cc
+    go (naming a) m h = rw (m .0) (letter-makes a (m .1))
+
+pub leaf-entries : (k : Token) (e : Expression) → leaf-of k ≡ some e → entries e ≡ 1
+unfolding leaf-of entries
+leaf-entries k e h = go k h
+  where
+    go : (k : Token) → leaf-of k ≡ some e → entries e ≡ 1
+    go opening h = cc
+    go closing h = cc
+    go starring h = cc
+    go zero h = cc
+    go unit h = cc
+    go other h = cc
+    go (signing s) h = cc
+    go (naming a) h = cc
+
+-- ---- Which bytes they are
+
+pub leaf-unit : (b : ℕ) → b ≡ byte-1 → leaf-of (token b) ≡ some ε
+unfolding leaf-of token
+leaf-unit b e = rw e
+
+pub leaf-letter : (b : ℕ) → is-letter b ≡ true → leaf-of (token b) ≡ some (letter b)
+unfolding leaf-of
+leaf-letter b e = rw (token-letter b (subst T (sym e) tt))
+
+pub leaf-other : (b : ℕ) → (b ≡ byte-1 → ⊥) → is-letter b ≡ false → leaf-of (token b) ≡ none
+unfolding leaf-of
+leaf-other b n e = go (token b) (token-made-of b)
+  where
+    go : (k : Token) → Made-of k b → leaf-of k ≡ none
+    go opening m = refl
+    go closing m = refl
+    go starring m = refl
+    go zero m = refl
+    go unit m = absurd (n m)
+    go other m = refl
+    go (signing s) m = refl
+    go (naming a) m = absurd (subst T (ap is-letter (sym (m .0)) ∙ e) (m .1))

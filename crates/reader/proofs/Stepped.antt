@@ -1,0 +1,60 @@
+-- What a cursor's step says of the text: at the end, or the byte that stands there. Assumes nothing.
+use Prim.Native.Nat.{ℕ, _+_, _≤_, _<_}
+use native.Mathlib.Omega.{arith}
+use mathlib.Core.Path.{_≡_, refl, ap, _∙_}
+use mathlib.Core.Bool.{Bool, true, false}
+use mathlib.Core.Logic.{inr}
+use mathlib.Core.List.{List, [], _∷_}
+use lib.ListN.{length, getD}
+use lib.Dec.{ltb}
+use borrow.Author.Tests.{ltb-true, ltb-false}
+use Rattle.columns.specs.Cursor.{step-at}
+use Rattle.columns.specs.declared.Cursor.{Cursor}
+use Rattle.columns.specs.declared.Step.{Step}
+use Rattle.columns.specs.declared.Step.the-variants.{Byte, End}
+use Rattle.theory.specs.Expression.{Sign, union, concatenation, shuffle}
+use Rattle.theory.specs.Table.{Table, Row, kind-of-sign}
+use Rattle.theory.specs.Grammar.{sign-byte, byte-close, byte-+, byte-dot, byte-&}
+use Rattle.reader.specs.declared.entries.Found.{Found}
+use Rattle.reader.specs.declared.entries.Found.the-variants.{Value, Refused}
+use Rattle.reader.specs.Found.{Entry, Close-at, Sign-at}
+
+pub record Stepped (text : List ℕ) (at byte : ℕ) (cursor : Cursor) : Type 0 where
+  pub inside : at < length text
+  pub here : getD text at 0 ≡ byte
+  pub next : cursor .at ≡ at + 1
+
+module _ (text : List ℕ) (at : ℕ) (r : Step) (h : r ≡ step-at text at) where
+  pub step-end : r ≡ End → length text ≤ at
+  step-end e = go (ltb at (length text)) refl
+    where
+      go : (b : Bool) → ltb at (length text) ≡ b → length text ≤ at
+      go true p = let z : _≡_ {A = ℕ} 0 1 = cc in absurd (omega arith)
+      go false p = ltb-false at (length text) p
+
+  pub step-byte : (byte : ℕ) (cursor : Cursor) → r ≡ Byte byte cursor → Stepped text at byte cursor
+  step-byte byte cursor e = go (ltb at (length text)) refl
+    where
+      go : (b : Bool) → ltb at (length text) ≡ b → Stepped text at byte cursor
+      go true p =
+          let same : cursor ≡ record { at = at + 1 } = cc in
+          record { inside = ltb-true at (length text) p; here = cc; next = ap (λ (q : Cursor). q .at) same }
+      go false p = let z : _≡_ {A = ℕ} 0 1 = cc in absurd (omega arith)
+
+-- ---- `)` and the signs
+
+pub close-at : (text : List ℕ) (room at made byte : ℕ) (cursor : Cursor) (w : Row) (t : Table) (r : Found) (t′ : Table)
+    → Stepped text at byte cursor → byte ≡ byte-close → Entry room at made cursor (w ∷ []) t r t′ → Close-at text room at made w t r t′
+close-at text room at made byte cursor w t (Value made′ cursor′) t′ s e h =
+    (s .inside, s .here ∙ e, h .0, h .1, ap (λ (q : Cursor). q .at) (h .2) ∙ s .next, h .3)
+close-at text room at made byte cursor w t (Refused number place) t′ s e h = (h .2, inr (h .1, s .inside, s .here ∙ e, h .0))
+
+pub sign-at : (text : List ℕ) (at byte : ℕ) (cursor : Cursor) (g : Sign) → Stepped text at byte cursor → byte ≡ sign-byte g
+    → Sign-at text at (Value (kind-of-sign g) cursor)
+sign-at text at byte cursor g s e = (g, s .inside, s .here ∙ e, refl, s .next)
+
+pub no-sign : (byte : ℕ) → (byte ≡ byte-+ → ⊥) → (byte ≡ byte-dot → ⊥) → (byte ≡ byte-& → ⊥) → (g : Sign) → byte ≡ sign-byte g → ⊥
+unfolding sign-byte
+no-sign byte p d a union = p
+no-sign byte p d a concatenation = d
+no-sign byte p d a shuffle = a

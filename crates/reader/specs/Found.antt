@@ -1,0 +1,107 @@
+-- What the reader's rules owe each other: told by the scan of `theory`, which goes on from behind what a rule found.
+use Prim.Native.Nat.{ℕ, _+_, _≤_, _<_}
+use mathlib.Core.Path.{_≡_}
+use mathlib.Core.Logic.{_⊎_}
+use mathlib.Core.List.{List, [], _∷_, map}
+use mathlib.Core.Option.{Option, none, some}
+use lib.ListN.{length, drop, getD}
+use lib.Seq.{sets}
+use Rattle.theory.specs.Expression.{Expression, Sign, ε, letter, entries}
+use Rattle.theory.specs.Refusal.{refusal, not-grammar, too-many-entries}
+use Rattle.theory.specs.Table.{Table, table, Row, kind-of-sign}
+use Rattle.theory.specs.Grammar.{Text, Reading, refused, rows, sign-byte, byte-0, byte-close, byte-*}
+use Rattle.theory.specs.Scan.{Token, opening, closing, starring, zero, unit, other, signing, naming, Frame, Stand, before, behind, scan-from}
+use Rattle.columns.specs.declared.Cursor.{Cursor}
+use Rattle.reader.specs.declared.entries.Found.{Found}
+use Rattle.reader.specs.declared.entries.Found.the-variants.{Value, Refused}
+
+-- The columns with rows ws from row `base` on.
+abbrev pub laid : ℕ → List Row → Table → Table
+laid base ws t =
+    table (sets (t .kind) base (map (λ (w : Row). w .kind) ws)) (sets (t .left) base (map (λ (w : Row). w .left) ws)) (sets (t .right) base (map (λ (w : Row). w .right) ws))
+
+-- 01: "the smaller of 512 and the column length" is what every rule may fill.
+pub record Room (room : ℕ) (t : Table) : Type 0 where
+  pub small : room ≤ 512
+  pub kind : room ≤ length (t .kind)
+  pub left : room ≤ length (t .left)
+  pub right : room ≤ length (t .right)
+
+-- An entry made at byte `place`: its row, with the cursor behind the byte, or 15 where the room is full.
+abbrev pub Entry : (room place made : ℕ) → Cursor → List Row → Table → Found → Table → Type 0
+Entry room place made cursor ws t (Value made′ cursor′) t′ = (made < room) × (made′ ≡ made + 1) × (cursor′ ≡ cursor) × (t′ ≡ laid made ws t)
+Entry room place made cursor ws t (Refused number p) t′ = (room ≤ made) × (number ≡ too-many-entries) × (p ≡ place)
+
+-- The expression that a byte is by itself.
+unfoldable pub leaf-of : Token → Option Expression
+leaf-of opening = none
+leaf-of closing = none
+leaf-of starring = none
+leaf-of zero = none
+leaf-of unit = some ε
+leaf-of other = none
+leaf-of (signing s) = none
+leaf-of (naming a) = some (letter a)
+
+abbrev pub Leaf : Option Expression → (room place made : ℕ) → Cursor → Table → Found → Table → Type 0
+Leaf none room place made cursor t r t′ = r ≡ Refused not-grammar place
+Leaf (some e) room place made cursor t r t′ = Entry room place made cursor (rows made e) t r t′
+
+-- A sign at place `at`, with its entry's kind, or 13.
+abbrev pub Sign-at : Text → ℕ → Found → Type 0
+Sign-at text at (Value kind cursor) = (s : Sign) × (at < length text) × (getD text at 0 ≡ sign-byte s) × (kind ≡ kind-of-sign s) × (cursor .at ≡ at + 1)
+Sign-at text at (Refused number place) = (number ≡ not-grammar) × (place ≡ at) × ((s : Sign) → at < length text → getD text at 0 ≡ sign-byte s → ⊥)
+
+-- `)` at place `at`, where the sign's entry is made: 13 where there is none, and 15 where the room is full.
+abbrev pub Close-at : Text → (room at made : ℕ) → Row → Table → Found → Table → Type 0
+Close-at text room at made w t (Value made′ cursor) t′ =
+    (at < length text) × (getD text at 0 ≡ byte-close) × (made < room) × (made′ ≡ made + 1) × (cursor .at ≡ at + 1) × (t′ ≡ laid made (w ∷ []) t)
+Close-at text room at made w t (Refused number place) t′ =
+    (place ≡ at)
+    × (((number ≡ not-grammar) × (at < length text → getD text at 0 ≡ byte-close → ⊥))
+    ⊎ ((number ≡ too-many-entries) × (at < length text) × (getD text at 0 ≡ byte-close) × (room ≤ made)))
+
+-- ---- Expression and operand
+
+abbrev pub scan-at : ℕ → Text → ℕ → ℕ → Stand → Reading
+scan-at room text at made c = scan-from room at made c (drop at text)
+
+-- Where a rule begins: the parentheses open, the place, the entries made and the columns.
+pub record Start : Type 0 where
+  pub depth : ℕ
+  pub at : ℕ
+  pub made : ℕ
+  pub columns : Table
+
+abbrev pub start : ℕ → ℕ → ℕ → Table → Start
+start depth at made t = record { depth = depth; at = at; made = made; columns = t }
+
+-- Where a rule may begin. `0` is an expression only where nothing was read before it, and no rule reads it.
+pub record May-begin (room : ℕ) (text : Text) (s : Start) : Type 0 where
+  pub room-left : Room room (s .columns)
+  pub shallow : s .depth ≤ 64
+  pub within : s .at ≤ length text
+  pub fits : s .made ≤ room
+  pub no-zero : s .depth ≡ 0 → getD text (s .at) 0 ≡ byte-0 → ⊥
+
+-- An expression stands between s and place `at`: the scan goes on behind it, and its rows are made.
+pub record Behind (room : ℕ) (text : Text) (s : Start) (at made : ℕ) (t : Table) : Type 0 where
+  pub expression : Expression
+  pub reads : (fs : List Frame) → length fs ≡ s .depth → scan-at room text (s .at) (s .made) (before fs) ≡ scan-at room text at made (behind expression fs)
+  pub shallow : s .depth ≤ 64
+  pub onward : s .at < at
+  pub within : at ≤ length text
+  pub counted : made ≡ s .made + entries expression
+  pub fits : made ≤ room
+  pub laid-out : t ≡ laid (s .made) (rows (s .made) expression) (s .columns)
+
+-- A rule's answer: the expression behind which it stopped, or the refusal that the scan gives.
+abbrev pub Answered : (room : ℕ) → Text → Start → Found → Table → Type 0
+Answered room text s (Value made cursor) t′ = Behind room text s (cursor .at) made t′
+Answered room text s (Refused number place) t′ =
+    (fs : List Frame) → length fs ≡ s .depth → scan-at room text (s .at) (s .made) (before fs) ≡ refused (refusal number place)
+
+-- No `*` follows: the expression is as long as it can be.
+abbrev pub Unstarred : Text → Found → Type 0
+Unstarred text (Value made cursor) = getD text (cursor .at) 0 ≡ byte-* → ⊥
+Unstarred text (Refused number place) = Unit {0}

@@ -1,0 +1,72 @@
+// The reader: turns a written expression into an expression table.
+
+mod entries;
+mod rules;
+
+use entries::Found;
+ghost use mathlib.Core.Path.{_≡_};
+ghost use Prim.Native.Nat.{min};
+ghost use Rattle.theory.specs.Table.{table};
+ghost use Rattle.theory.specs.Read.{Read};
+ghost use Rattle.reader.specs.Answer.{answer};
+ghost use Rattle.reader.specs.Whole.{cleared, Limited};
+
+// 01: "the result gives the number of entries"; "A refusal returns its number and place".
+pub enum Reading {
+    Read { entries: usize },
+    Refused { number: u8, place: usize },
+}
+
+pub fn read(text: &[u8], kind: &mut [u8], left: &mut [u16], right: &mut [u16]) -> Reading
+    ensures { λ r.
+        ⌜ Read (now (text .entry)) (table (now (kind .entry)) (now (left .entry)) (now (right .entry))) (answer r)
+        (table (now (kind .exit)) (now (left .exit)) (now (right .exit))) ⌝ }
+{
+    let found = limited(text, kind, left, right);
+    match found {
+        Found::Value { value, cursor: _ } => Reading::Read { entries: value },
+        Found::Refused { number, place } => {
+            clear(kind, left, right);
+            Reading::Refused { number, place }
+        }
+    }
+}
+
+// 01: "Reader: 1, 12, then the one of 13, 14, 15 with the earliest byte".
+fn limited(text: &[u8], kind: &mut [u8], left: &mut [u16], right: &mut [u16]) -> Found
+    ensures { λ r.
+        ⌜ Limited (now (text .entry)) (table (now (kind .entry)) (now (left .entry)) (now (right .entry))) r
+        (table (now (kind .exit)) (now (left .exit)) (now (right .exit))) ⌝ }
+{
+    clear(kind, left, right);
+    let room = kind.len();
+    if (left.len() != room) | (right.len() != room) {
+        return Found::Refused {
+            number: 1,
+            place: 0,
+        };
+    }
+    if 4096 < text.len() {
+        return Found::Refused {
+            number: 12,
+            place: 0,
+        };
+    }
+    rules::whole(text, smaller(512, room), kind, left, right)
+}
+
+fn smaller(a: usize, b: usize) -> usize
+    ensures { λ r. ⌜ r ≡ min a b ⌝ }
+{
+    if a < b { a } else { b }
+}
+
+fn clear(kind: &mut [u8], left: &mut [u16], right: &mut [u16])
+    ensures { λ _.
+        ⌜ table (now (kind .exit)) (now (left .exit)) (now (right .exit))
+        ≡ cleared (table (now (kind .entry)) (now (left .entry)) (now (right .entry))) ⌝ }
+{
+    columns::clear8(kind);
+    columns::clear16(left);
+    columns::clear16(right);
+}
