@@ -1,4 +1,15 @@
+pub mod Answering
+pub mod FreshStep
 pub mod Growing
 pub mod Interning
-pub mod Answering
+pub mod Joining
+pub mod Lifting
+pub mod Listing
+pub mod Lowering
+pub mod Membership
+pub mod Needing
+pub mod Placing
+pub mod RowStep
+pub mod SideStep
+pub mod Siding
 pub mod Taking

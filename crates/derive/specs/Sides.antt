@@ -1,5 +1,5 @@
 -- The list of a derivative from its two sides: the left part's list and the right part's, each member joined with one other tree.
-use Prim.Native.Nat.{ℕ, _<_}
+use Prim.Native.Nat.{ℕ, _≤_, _<_}
 use mathlib.Core.Path.{_≡_}
 use mathlib.Core.Bool.{Bool, true, false, cond, not, _||_, _&&_}
 use mathlib.Core.List.{List, [], map}
@@ -25,6 +25,11 @@ beside s o false m = joined s o m
 abbrev pub side-list : ℕ → Table → Side → List Expression
 side-list a t Nothing = []
 side-list a t (Of child other kind first) = map (beside (side-sign kind) (tree-at t other) first) (derivative a (tree-at t child))
+
+-- A side of row i of n: its child comes before row i, its other tree is a row, its kind is that of a joining sign.
+abbrev pub Within-row : ℕ → ℕ → Side → Type 0
+Within-row n i Nothing = Unit {0}
+Within-row n i (Of child other kind first) = (child < i) × (other < n) × (4 ≤ kind) × (kind ≤ 5)
 
 -- The two sides of row i. 01: "union: the left's list, then the right's"; concatenation xy: "each member of x's list followed by y;
 -- then, if x contains the empty word, y's list"; star: "each member of the inner list followed by the star"; shuffle: "each member of

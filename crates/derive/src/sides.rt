@@ -2,10 +2,12 @@
 
 ghost use mathlib.Core.Path.{_≡_};
 ghost use Prim.Native.Nat.{_≤_, _<_};
+ghost use mathlib.Core.Bool.{not, _&&_};
+ghost use lib.Dec.{eqb};
 ghost use lib.ListN.{length};
-ghost use Rattle.theory.specs.Table.{table};
-ghost use Rattle.derive.specs.Rows.{Rows, Interns};
-ghost use Rattle.derive.specs.Sides.{left-side, right-side, lowered, side-sign, beside};
+ghost use Rattle.theory.specs.Table.{table, tree-at};
+ghost use Rattle.derive.specs.Rows.{Rows, SoundTo, Interns};
+ghost use Rattle.derive.specs.Sides.{left-side, right-side, choose, lowered, side-sign, beside};
 
 // The members of `child`, each joined with `other` by a sign of kind 4 or 5; `first`: the member stands first.
 pub enum Side {
@@ -23,7 +25,10 @@ pub enum Lowered {
     Outside,
 }
 
-pub fn left_side(kind: &[u8], left: &[u16], right: &[u16], row: usize) -> Side {
+pub fn left_side(kind: &[u8], left: &[u16], right: &[u16], row: usize) -> Side
+    requires { ⌜ SoundTo (table (now kind) (now left) (now right)) row ⌝ }
+    ensures { λ r. ⌜ r ≡ left-side (table (now (kind .entry)) (now (left .entry)) (now (right .entry))) row ⌝ }
+{
     let w = columns::row_at(kind, left, right, row);
     let k = w.kind;
     let child = w.left as usize;
@@ -55,7 +60,10 @@ pub fn left_side(kind: &[u8], left: &[u16], right: &[u16], row: usize) -> Side {
     Side::Nothing
 }
 
-pub fn right_side(kind: &[u8], left: &[u16], right: &[u16], row: usize) -> Side {
+pub fn right_side(kind: &[u8], left: &[u16], right: &[u16], row: usize) -> Side
+    requires { ⌜ SoundTo (table (now kind) (now left) (now right)) row ⌝ }
+    ensures { λ r. ⌜ r ≡ right-side (table (now (kind .entry)) (now (left .entry)) (now (right .entry))) row ⌝ }
+{
     let w = columns::row_at(kind, left, right, row);
     let k = w.kind;
     let x = w.left as usize;
@@ -98,7 +106,16 @@ pub fn lift(
     sign: u8,
     first: bool,
     member: usize,
-) -> super::rows::Interned {
+) -> super::rows::Interned
+    requires { ⌜ Rows (table (now kind) (now left) (now right)) used ⌝ }
+    requires { ⌜ (used ≤ room) × (room ≤ length (now kind)) × (room ≤ 65535) ⌝ }
+    requires { ⌜ (other < used) × (member < used) × (4 ≤ sign) × (sign ≤ 5) ⌝ }
+    ensures { λ i.
+        ⌜ Interns (table (now (kind .entry)) (now (left .entry)) (now (right .entry))) used room
+        (beside (side-sign sign) (tree-at (table (now (kind .entry)) (now (left .entry)) (now (right .entry))) other) first
+        (tree-at (table (now (kind .entry)) (now (left .entry)) (now (right .entry))) member)) i
+        (table (now (kind .exit)) (now (left .exit)) (now (right .exit))) ⌝ }
+{
     if other == 0 {
         return super::rows::Interned::At { row: member, used };
     }
@@ -129,8 +146,21 @@ pub fn lift(
     )
 }
 
-// The member whose join with `other` is the row p. A join with the literal empty word is never made, though the given expression may
-// hold one.
+// The member of a pair with `o`, where that is `other`. A join with the literal empty word is never made, though the given expression
+// may hold one.
+fn kept(member: usize, o: usize, other: usize) -> Lowered
+    ensures { λ r. ⌜ r ≡ choose (eqb o other && not (eqb member 0)) (Lowered.Member member) Lowered.Outside ⌝ }
+{
+    if o != other {
+        return Lowered::Outside;
+    }
+    if member == 0 {
+        return Lowered::Outside;
+    }
+    Lowered::Member { row: member }
+}
+
+// The member whose join with `other` is the row p.
 pub fn lower(
     kind: &[u8],
     left: &[u16],
@@ -139,7 +169,10 @@ pub fn lower(
     sign: u8,
     first: bool,
     p: usize,
-) -> Lowered {
+) -> Lowered
+    requires { ⌜ (p < length (now kind)) × (p < length (now left)) × (p < length (now right)) ⌝ }
+    ensures { λ r. ⌜ r ≡ lowered (table (now (kind .entry)) (now (left .entry)) (now (right .entry))) other sign first p ⌝ }
+{
     if other == 0 {
         return Lowered::Member { row: p };
     }
@@ -152,11 +185,8 @@ pub fn lower(
     if w.kind != sign {
         return Lowered::Outside;
     }
-    if first && r == other && l != 0 {
-        return Lowered::Member { row: l };
+    if first {
+        return kept(l, r, other);
     }
-    if !first && l == other && r != 0 {
-        return Lowered::Member { row: r };
-    }
-    Lowered::Outside
+    kept(r, l, other)
 }

@@ -1,5 +1,14 @@
 // The walk along a derivative's list: whether a tree is a member, and the member behind a given one.
 
+ghost use mathlib.Core.Path.{_≡_};
+ghost use mathlib.Core.List.{List·Memᴰ};
+ghost use Prim.Native.Nat.{_≤_, _<_};
+ghost use lib.ListN.{length};
+ghost use Rattle.theory.specs.Derivative.{derivative};
+ghost use Rattle.theory.specs.Table.{table, tree-at};
+ghost use Rattle.derive.specs.Rows.{Rows, Tells};
+ghost use Rattle.derive.specs.Sides.{Within-row, side-list};
+ghost use Rattle.derive.specs.Walk.{Row-among, Side-among, Place-among, Place-within, Stands, In-list, lowered-place, to-come, beyond, Gives, Steps};
 use super::rows::Interned;
 use super::sides::Lowered;
 use super::sides::Side;
@@ -16,14 +25,10 @@ pub enum Stepped {
     NoRoom,
 }
 
-pub fn has(
-    kind: &[u8],
-    left: &[u16],
-    right: &[u16],
-    letter: u8,
-    row: usize,
-    member: usize,
-) -> bool {
+pub fn has(kind: &[u8], left: &[u16], right: &[u16], letter: u8, row: usize, member: usize) -> bool
+    requires { ⌜ Row-among (table (now kind) (now left) (now right)) row member ⌝ }
+    ensures { λ r. ⌜ Tells r (List·Memᴰ (tree-at (table (now (kind .entry)) (now (left .entry)) (now (right .entry))) member) (derivative letter (tree-at (table (now (kind .entry)) (now (left .entry)) (now (right .entry))) row))) ⌝ }
+{
     let w = columns::row_at(kind, left, right, row);
     if w.kind == 2 {
         return w.left == letter as u16 && member == 0;
@@ -36,14 +41,10 @@ pub fn has(
     side_has(kind, left, right, letter, b, member)
 }
 
-fn side_has(
-    kind: &[u8],
-    left: &[u16],
-    right: &[u16],
-    letter: u8,
-    side: Side,
-    member: usize,
-) -> bool {
+fn side_has(kind: &[u8], left: &[u16], right: &[u16], letter: u8, side: Side, member: usize) -> bool
+    requires { ⌜ Side-among (table (now kind) (now left) (now right)) side member ⌝ }
+    ensures { λ r. ⌜ Tells r (List·Memᴰ (tree-at (table (now (kind .entry)) (now (left .entry)) (now (right .entry))) member) (side-list letter (table (now (kind .entry)) (now (left .entry)) (now (right .entry))) side)) ⌝ }
+{
     let Side::Of {
         child,
         other,
@@ -69,7 +70,13 @@ pub fn step(
     letter: u8,
     row: usize,
     place: Place,
-) -> Stepped {
+) -> Stepped
+    requires { ⌜ Rows (table (now kind) (now left) (now right)) used ⌝ }
+    requires { ⌜ (used ≤ room) × (room ≤ length (now kind)) × (room ≤ 65535) × (row < used) ⌝ }
+    requires { ⌜ In-list (table (now kind) (now left) (now right)) used place (derivative letter (tree-at (table (now kind) (now left) (now right)) row)) ⌝ }
+    ensures { λ r.
+        ⌜ Steps (table (now (kind .entry)) (now (left .entry)) (now (right .entry))) used room (derivative letter (tree-at (table (now (kind .entry)) (now (left .entry)) (now (right .entry))) row)) place r (table (now (kind .exit)) (now (left .exit)) (now (right .exit))) ⌝ }
+{
     let w = columns::row_at(kind, left, right, row);
     if w.kind == 2 {
         let Place::Start = place else {
@@ -103,14 +110,10 @@ pub fn step(
 }
 
 // The start of the list and each member of the left side are walked there.
-fn place_has(
-    kind: &[u8],
-    left: &[u16],
-    right: &[u16],
-    letter: u8,
-    side: Side,
-    place: Place,
-) -> bool {
+fn place_has(kind: &[u8], left: &[u16], right: &[u16], letter: u8, side: Side, place: Place) -> bool
+    requires { ⌜ Place-among (table (now kind) (now left) (now right)) side place ⌝ }
+    ensures { λ r. ⌜ Tells r (Stands (table (now (kind .entry)) (now (left .entry)) (now (right .entry))) place (side-list letter (table (now (kind .entry)) (now (left .entry)) (now (right .entry))) side)) ⌝ }
+{
     let Place::Behind { row } = place else {
         return true;
     };
@@ -126,7 +129,12 @@ fn side_step(
     letter: u8,
     side: Side,
     place: Place,
-) -> Stepped {
+) -> Stepped
+    requires { ⌜ Rows (table (now kind) (now left) (now right)) used ⌝ }
+    requires { ⌜ (used ≤ room) × (room ≤ length (now kind)) × (room ≤ 65535) × Within-row used used side ⌝ }
+    requires { ⌜ In-list (table (now kind) (now left) (now right)) used place (side-list letter (table (now kind) (now left) (now right)) side) ⌝ }
+    ensures { λ r. ⌜ Steps (table (now (kind .entry)) (now (left .entry)) (now (right .entry))) used room (side-list letter (table (now (kind .entry)) (now (left .entry)) (now (right .entry))) side) place r (table (now (kind .exit)) (now (left .exit)) (now (right .exit))) ⌝ }
+{
     let Side::Of {
         child,
         other,
@@ -156,7 +164,10 @@ fn lower_place(
     sign: u8,
     first: bool,
     place: Place,
-) -> Place {
+) -> Place
+    requires { ⌜ Place-within (table (now kind) (now left) (now right)) place ⌝ }
+    ensures { λ r. ⌜ r ≡ lowered-place (table (now (kind .entry)) (now (left .entry)) (now (right .entry))) other sign first place ⌝ }
+{
     let Place::Behind { row } = place else {
         return Place::Start;
     };
@@ -178,7 +189,15 @@ fn fresh_step(
     a: Side,
     b: Side,
     place: Place,
-) -> Stepped {
+) -> Stepped
+    requires { ⌜ Rows (table (now kind) (now left) (now right)) used ⌝ }
+    requires { ⌜ (used ≤ room) × (room ≤ length (now kind)) × (room ≤ 65535) × Within-row used used a × Within-row used used b ⌝ }
+    requires { ⌜ In-list (table (now kind) (now left) (now right)) used place (side-list letter (table (now kind) (now left) (now right)) b) ⌝ }
+    ensures { λ r.
+        ⌜ Gives (table (now (kind .entry)) (now (left .entry)) (now (right .entry))) used room (side-list letter (table (now (kind .entry)) (now (left .entry)) (now (right .entry))) b)
+        (beyond (side-list letter (table (now (kind .entry)) (now (left .entry)) (now (right .entry))) a) (to-come (table (now (kind .entry)) (now (left .entry)) (now (right .entry))) place (side-list letter (table (now (kind .entry)) (now (left .entry)) (now (right .entry))) b))) r
+        (table (now (kind .exit)) (now (left .exit)) (now (right .exit))) ⌝ }
+{
     let mut at = place;
     let mut n = used;
     loop {
