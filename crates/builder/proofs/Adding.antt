@@ -37,7 +37,7 @@ column-more column xs n v e q l =
     ∙ set-append-seam xs 0 rest v
     ∙ sym (append-snoc xs v rest)
     ∙ ap (λ (k : ℕ). xs ++ (v ∷ []) ++ zeros k)
-      (sym (ap₂ (λ (a b : ℕ). a - b) (length-set column n v) (length-append xs (v ∷ []) ∙ add-one (length xs))))
+    (sym (ap₂ (λ (a b : ℕ). a - b) (length-set column n v) (length-append xs (v ∷ []) ∙ add-one (length xs))))
 
 -- The same of a column of fields.
 pub field-more : {A : Type 0} (f : A → ℕ) (ms : List A) (m : A) (column : List ℕ) (n v : ℕ) → column ≡ filled (length column) (map f ms) → n ≡ length ms
@@ -53,7 +53,8 @@ names-more {t} {n} column ss s r x h q l below is =
     record {
       within = λ i m. at-within i m (ℕ-discrete i s);
       named = λ i m. at-named i m (ℕ-discrete i s);
-      blank = λ i m. getD-set-other column s i r 0 (λ e. omega (arith, size)) ∙ h .blank i (omega (arith, size)) }
+      blank = λ i m. getD-set-other column s i r 0 (λ e. omega (arith, size)) ∙ h .blank i (omega (arith, size));
+    }
   where
     size : length (ss ++ (x ∷ [])) ≡ suc (length ss)
     size = length-append ss (x ∷ []) ∙ add-one (length ss)
@@ -103,8 +104,8 @@ module _ {e : Expression} {done : List Meeting} {c : Lent} {k : Counts} (p : Pro
       → j ≡ place same (tree-at (c .rows) r) (states e)
       → k .arcs < length (c .from) → k .arcs < length (c .letter) → k .arcs < length (c .to)
       → Progress e (done ++ (meeting i a (tree-at (c .rows) r) ∷ []))
-        (lent (c .rows) column flags (set (c .from) (k .arcs) i) (set (c .letter) (k .arcs) a) (set (c .to) (k .arcs) j))
-        (record { rows = k .rows; states = s′; arcs = k .arcs + 1 })
+      (lent (c .rows) column flags (set (c .from) (k .arcs) i) (set (c .letter) (k .arcs) a) (set (c .to) (k .arcs) j))
+      (record { rows = k .rows; states = s′; arcs = k .arcs + 1 })
   arc-added s′ j column flags count names accepts number lf ll lt =
       record {
         rows = p .rows;
@@ -116,8 +117,9 @@ module _ {e : Expression} {done : List Meeting} {c : Lent} {k : Counts} (p : Pro
         from = field-more (λ (y : Meeting). y .from) done (meeting i a (tree-at (c .rows) r)) (c .from) (k .arcs) i (p .from) (p .arc-count) lf refl;
         letter = field-more (λ (y : Meeting). y .letter) done (meeting i a (tree-at (c .rows) r)) (c .letter) (k .arcs) a (p .letter) (p .arc-count) ll refl;
         to =
-          field-more (λ (y : Meeting). place same (y .target) (states e)) done (meeting i a (tree-at (c .rows) r)) (c .to) (k .arcs) j (p .to) (p .arc-count) lt
-          number }
+            field-more (λ (y : Meeting). place same (y .target) (states e)) done (meeting i a (tree-at (c .rows) r)) (c .to) (k .arcs) j (p .to) (p .arc-count) lt
+            number;
+      }
 
   abbrev met-so-far : List Expression
   met-so-far = so-far e (done ++ (meeting i a (tree-at (c .rows) r) ∷ []))
@@ -125,7 +127,7 @@ module _ {e : Expression} {done : List Meeting} {c : Lent} {k : Counts} (p : Pro
   -- A state that stands already.
   pub known-added : (j : ℕ) → j < k .states → getD (c .expression) j 0 ≡ r → k .arcs < length (c .from) → k .arcs < length (c .letter) → k .arcs < length (c .to)
       → Progress e (done ++ (meeting i a (tree-at (c .rows) r) ∷ [])) (with-arc c (k .arcs) i a j)
-        (record { rows = k .rows; states = k .states; arcs = k .arcs + 1 })
+      (record { rows = k .rows; states = k .states; arcs = k .arcs + 1 })
   known-added j l q lf ll lt =
       let below : j < length (so-far e done) = subst (λ (n : ℕ). j < n) (p .state-count) l in
       let is = found-state j l q in
@@ -140,18 +142,18 @@ module _ {e : Expression} {done : List Meeting} {c : Lent} {k : Counts} (p : Pro
       → k .states < length (c .expression) → k .states < length (c .accepting)
       → k .arcs < length (c .from) → k .arcs < length (c .letter) → k .arcs < length (c .to)
       → Progress e (done ++ (meeting i a (tree-at (c .rows) r) ∷ [])) (with-arc (with-state c (k .states) r b) (k .arcs) i a (k .states))
-        (record { rows = k .rows; states = k .states + 1; arcs = k .arcs + 1 })
+      (record { rows = k .rows; states = k .states + 1; arcs = k .arcs + 1 })
   new-added b f all flag lx la lf ll lt =
       let grows = so-far-new e done (meeting i a (tree-at (c .rows) r)) (not-found f all) in
       let last : getD met-so-far (k .states) ∅ ≡ tree-at (c .rows) r =
-        ap (λ ss. getD ss (k .states) ∅) grows ∙ getD-at (so-far e done) (tree-at (c .rows) r) [] ∅ (k .states) (sym (p .state-count)) in
+      ap (λ ss. getD ss (k .states) ∅) grows ∙ getD-at (so-far e done) (tree-at (c .rows) r) [] ∅ (k .states) (sym (p .state-count)) in
       let size : length met-so-far ≡ k .states + 1 =
-        ap length grows ∙ length-append (so-far e done) (tree-at (c .rows) r ∷ []) ∙ ap (λ (n : ℕ). n + 1) (sym (p .state-count)) in
+      ap length grows ∙ length-append (so-far e done) (tree-at (c .rows) r ∷ []) ∙ ap (λ (n : ℕ). n + 1) (sym (p .state-count)) in
       arc-added (k .states + 1) (k .states) (set (c .expression) (k .states) r) (set (c .accepting) (k .states) b) (sym size)
       (subst (Names (c .rows) (k .rows) (set (c .expression) (k .states) r)) (sym grows)
-        (names-more (c .expression) (so-far e done) (k .states) r (tree-at (c .rows) r) (p .named) (p .state-count) lx row-in refl))
+      (names-more (c .expression) (so-far e done) (k .states) r (tree-at (c .rows) r) (p .named) (p .state-count) lx row-in refl))
       (field-more (λ y. cond (empty-word y) 1 0) (so-far e done) (tree-at (c .rows) r) (c .accepting) (k .states) b (p .accepting) (p .state-count) la flag
-        ∙ ap (λ ss. filled (length (set (c .accepting) (k .states) b)) (map (λ y. cond (empty-word y) 1 0) ss)) (sym grows))
+      ∙ ap (λ ss. filled (length (set (c .accepting) (k .states) b)) (map (λ y. cond (empty-word y) 1 0) ss)) (sym grows))
       (sym (state-number s (k .states) ∅ (omega (arith, size))) ∙ ap (λ y. place same y (states e)) last) lf ll lt
 
   -- No room for it.

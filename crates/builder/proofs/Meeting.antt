@@ -23,7 +23,8 @@ row-sound h l =
       in-kind = omega arith;
       in-left = omega (arith, h .left-length);
       in-right = omega (arith, h .right-length);
-      sound = λ j m. h .sound j (omega arith) }
+      sound = λ j m. h .sound j (omega arith);
+    }
 
 module _ {c : Lent} {rooms k : Counts} {i a r : ℕ} (h : Ready c rooms k) (q : Meets c k i a r) (c′ : Lent) where
   pub met-no-arc : rooms .arcs ≤ k .arcs → Met c k rooms i a r NoRoom c′
@@ -45,7 +46,7 @@ module _ {c : Lent} {rooms k : Counts} {i a r : ℕ} (h : Ready c rooms k) (q : 
   -- Stores change no length, and one arc more is within its room.
   still-roomy : (j s : ℕ) (column flags : List ℕ) → length column ≡ length (c .expression) → length flags ≡ length (c .accepting) → s ≤ rooms .states
       → Roomy (lent (c .rows) column flags (set (c .from) (k .arcs) i) (set (c .letter) (k .arcs) a) (set (c .to) (k .arcs) j)) rooms
-        (record { rows = k .rows; states = s; arcs = k .arcs + 1 })
+      (record { rows = k .rows; states = s; arcs = k .arcs + 1 })
   still-roomy j s column flags lc lf fits =
       let o = h .roomy in
       record {
@@ -60,7 +61,8 @@ module _ {c : Lent} {rooms k : Counts} {i a r : ℕ} (h : Ready c rooms k) (q : 
         to-in = simp length-set (o .to-in);
         rows-fit = o .rows-fit;
         states-fit = fits;
-        arcs-fit = omega arith }
+        arcs-fit = omega arith;
+      }
 
   pub met-known : {j : ℕ} → FirstEqual (c .expression) (k .states) r j → j < k .states → (f l t : List ℕ) → f ≡ set (c .from) (k .arcs) i
       → l ≡ set (c .letter) (k .arcs) a → t ≡ set (c .to) (k .arcs) j
@@ -69,20 +71,24 @@ module _ {c : Lent} {rooms k : Counts} {i a r : ℕ} (h : Ready c rooms k) (q : 
       subst (Met c k rooms i a r (On (record { rows = k .rows; states = k .states; arcs = k .arcs + 1 })))
       (λ z. lent (c .rows) (c .expression) (c .accepting) (sym ef z) (sym el z) (sym et z))
       (record {
-        goes =
-          (known-added (h .progress) i a r (q .row) (q .next) j below (first .found below) in-from in-letter in-to,
-           still-roomy j (k .states) (c .expression) (c .accepting) refl refl (h .roomy .states-fit)) })
+        goes = (
+          known-added (h .progress) i a r (q .row) (q .next) j below (first .found below) in-from in-letter in-to,
+          still-roomy j (k .states) (c .expression) (c .accepting) refl refl (h .roomy .states-fit),
+        );
+      })
 
   pub met-new : {j : ℕ} → FirstEqual (c .expression) (k .states) r j → k .states ≤ j → k .states < rooms .states → (b : ℕ) (f l t : List ℕ)
       → b ≡ cond (empty-word (tree-at (c .rows) r)) 1 0 → f ≡ set (c .from) (k .arcs) i → l ≡ set (c .letter) (k .arcs) a → t ≡ set (c .to) (k .arcs) (k .states)
       → Met c k rooms i a r (On (record { rows = k .rows; states = k .states + 1; arcs = k .arcs + 1 }))
-        (lent (c .rows) (set (c .expression) (k .states) r) (set (c .accepting) (k .states) b) f l t)
+      (lent (c .rows) (set (c .expression) (k .states) r) (set (c .accepting) (k .states) b) f l t)
   met-new {j} first all room b f l t eb ef el et =
       subst (Met c k rooms i a r (On (record { rows = k .rows; states = k .states + 1; arcs = k .arcs + 1 })))
       (λ z. lent (c .rows) (set (c .expression) (k .states) r) (set (c .accepting) (k .states) b) (sym ef z) (sym el z) (sym et z))
       (record {
-        goes =
-          (new-added (h .progress) i a r (q .row) (q .next) b first all eb (lt-of-lt-of-le room (h .roomy .states-in)) (lt-of-lt-of-le room (h .roomy .accepting-in))
-             in-from in-letter in-to,
-           still-roomy (k .states) (k .states + 1) (set (c .expression) (k .states) r) (set (c .accepting) (k .states) b) (length-set (c .expression) (k .states) r)
-             (length-set (c .accepting) (k .states) b) (omega arith)) })
+        goes = (
+          new-added (h .progress) i a r (q .row) (q .next) b first all eb (lt-of-lt-of-le room (h .roomy .states-in)) (lt-of-lt-of-le room (h .roomy .accepting-in))
+              in-from in-letter in-to,
+          still-roomy (k .states) (k .states + 1) (set (c .expression) (k .states) r) (set (c .accepting) (k .states) b) (length-set (c .expression) (k .states) r)
+              (length-set (c .accepting) (k .states) b) (omega arith),
+        );
+      })

@@ -73,7 +73,8 @@ module _ {rooms : Counts} {t : Table} {expression accepting : List ℕ} (h : Beg
           once = (List·Memᴰ·not-nil, tt);
           some = le-refl 1;
           literal = ε-tree;
-          blank = blank-row }
+          blank = blank-row;
+        }
       where
         only : (i : ℕ) → i < 1 → i ≡ 0
         only i l = omega arith
@@ -100,9 +101,10 @@ module _ {rooms : Counts} {t : Table} {expression accepting : List ℕ} (h : Beg
           no-arc = refl;
           named = names-more expression [] 0 r x none refl (lt-of-lt-of-le room (h .states-in)) (k .there) (k .is);
           flags =
-            column-more accepting [] 0 b (h .accepting-zero ∙ ap zeros (sym (sub-zero (length accepting)))) refl (lt-of-lt-of-le room (h .accepting-in))
-            ∙ ap (λ (v : ℕ). filled (length (set accepting 0 b)) (v ∷ [])) (flag ∙ ap (λ y. cond (empty-word y) 1 0) (k .is));
-          state-room = room })
+              column-more accepting [] 0 b (h .accepting-zero ∙ ap zeros (sym (sub-zero (length accepting)))) refl (lt-of-lt-of-le room (h .accepting-in))
+              ∙ ap (λ (v : ℕ). filled (length (set accepting 0 b)) (v ∷ [])) (flag ∙ ap (λ y. cond (empty-word y) 1 0) (k .is));
+          state-room = room;
+        })
       where
         none : Names t′ n expression []
         none = record { within = λ i l. absurd (omega arith); named = λ i l. absurd (omega arith); blank = λ i l. zero-at expression i (h .expression-zero) }
@@ -125,7 +127,8 @@ given-sound g e i l =
       in-kind = l;
       in-left = omega (arith, w .lengths .0);
       in-right = omega (arith, w .lengths .1);
-      sound = λ j m. faultless-sound (w .faultless j (omega arith)) }
+      sound = λ j m. faultless-sound (w .faultless j (omega arith));
+    }
 
 pub given-some : (g : Table) → (table-refusal g) .number ≡ 0 → 0 < size g
 given-some g e = (well-formed g e) .nonempty

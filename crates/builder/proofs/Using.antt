@@ -41,7 +41,8 @@ module _ {kind left : List ℕ} {used : List Bool} {i : ℕ} (m : Marked kind le
   marked-same h =
       record {
         all = m .all;
-        marks = λ a l. m .marks a l ∙ or-none (some-below i (is-letter kind left a)) ∙ ap (λ (b : Bool). some-below i (is-letter kind left a) || b) (sym (h a l)) ∙ sym (some-more i (is-letter kind left a)) }
+        marks = λ a l. m .marks a l ∙ or-none (some-below i (is-letter kind left a)) ∙ ap (λ (b : Bool). some-below i (is-letter kind left a) || b) (sym (h a l)) ∙ sym (some-more i (is-letter kind left a));
+      }
 
   pub marked-other : (getD kind i 0 ≡ 2 → ⊥) → Marked kind left used (i + 1)
   marked-other n = marked-same (λ a l. ap (λ (b : Bool). b && eqb (getD left i 0) a) (ne-eqb (getD kind i 0) 2 n))
@@ -54,7 +55,8 @@ module _ {kind left : List ℕ} {used : List Bool} {i : ℕ} (m : Marked kind le
   marked-letter q h =
       record {
         all = length-set used (getD left i 0) true ∙ m .all;
-        marks = λ a l. go a l (ℕ-discrete a (getD left i 0)) ∙ sym (some-more i (is-letter kind left a)) }
+        marks = λ a l. go a l (ℕ-discrete a (getD left i 0)) ∙ sym (some-more i (is-letter kind left a));
+      }
     where
       go : (a : ℕ) → a < 256 → Dec (a ≡ getD left i 0) → getD (set used (getD left i 0) true) a false ≡ (some-below i (is-letter kind left a) || is-letter kind left a i)
       go a l (yes e) =

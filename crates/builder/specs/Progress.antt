@@ -1,18 +1,18 @@
 -- How far the automaton of e stands in the lent columns: what is met so far, in 01's order, and what the columns then hold.
-use Prim.Native.Nat.{ℕ, _≤_, _<_}
+use Prim.Native.Nat.{ℕ, _-_, _≤_, _<_}
 use mathlib.Core.Path.{_≡_}
-use mathlib.Core.Bool.{cond}
+use mathlib.Core.Bool.{Bool, false, cond}
 use mathlib.Core.Logic.{_⊎_}
-use mathlib.Core.List.{List, [], _∷_, _++_, map}
+use mathlib.Core.List.{List, [], _∷_, _++_, map, List·Memᴰ}
 use lib.ListN.{length, getD, take}
-use Rattle.theory.specs.Expression.{Expression, same}
+use Rattle.theory.specs.Expression.{Expression, same, letters}
 use Rattle.theory.specs.Distinct.{place, Within}
 use Rattle.theory.specs.Derivative.{empty-word}
 use Rattle.theory.specs.Automaton.{states, arcs, expressions}
 use Rattle.theory.specs.Column.{zeros, filled}
 use Rattle.theory.specs.Table.{Table, trees, tree-at}
 use Rattle.theory.specs.Build.{Lent, Names}
-use Rattle.theory.proofs.Meetings.{Meeting, meeting, meetings, so-far}
+use Rattle.theory.proofs.Meetings.{Meeting, meeting, meetings, before, so-far}
 use Rattle.theory.proofs.Nearing.{Starts}
 use Rattle.derive.specs.Rows.{Rows}
 use Rattle.builder.specs.declared.arcs.Counts.{Counts}
@@ -116,3 +116,34 @@ pub record Standing (e : Expression) (rooms k : Counts) (t : Table) (expression 
 abbrev pub Begun : Expression → Counts → Went → Table → List ℕ → List ℕ → Type 0
 Begun e rooms (On k) t expression accepting = Standing e rooms k t expression accepting
 Begun e rooms NoRoom t expression accepting = Exceeds e rooms
+
+-- State i is left by the letter a: all before that is met.
+pub record Leaves (c : Lent) (k : Counts) (i a : ℕ) : Type 0 where
+  pub state : i < k .states
+  pub low : 1 ≤ a
+  pub high : a ≤ 255
+  pub here : k .arcs ≡ length (before (root c) i (a - 1))
+
+-- State i is left by all letters: all before that is met.
+pub record LeavesAll (c : Lent) (k : Counts) (i : ℕ) : Type 0 where
+  pub state : i < k .states
+  pub here : k .arcs ≡ length (before (root c) i 0)
+
+-- Letters that are not marked are none of e's.
+abbrev pub Knows : List Bool → Expression → Type 0
+Knows used e = (a : ℕ) → a < 256 → getD used a false ≡ false → List·Memᴰ a (letters e) → ⊥
+
+pub record Reaches (e : Expression) (done : List Meeting) (rooms : Counts) (w : Went) (c : Lent) : Type 0 where
+  pub goes : Goes e done rooms w c
+
+-- All lent columns before the first state.
+pub record Blank (rooms : Counts) (c : Lent) : Type 0 where
+  pub begins : Begins rooms (c .rows) (c .expression) (c .accepting)
+  pub states-small : rooms .states ≤ 65535
+  pub arcs-small : rooms .arcs ≤ 16777216
+  pub from-zero : c .from ≡ zeros (length (c .from))
+  pub letter-zero : c .letter ≡ zeros (length (c .letter))
+  pub to-zero : c .to ≡ zeros (length (c .to))
+  pub from-in : rooms .arcs ≤ length (c .from)
+  pub letter-in : rooms .arcs ≤ length (c .letter)
+  pub to-in : rooms .arcs ≤ length (c .to)

@@ -67,19 +67,13 @@ pub fn meet(
     letter: &mut [u8],
     to: &mut [u16],
 ) -> Went
-    requires {
-        ⌜ Ready (lent (table (now xkind) (now xleft) (now xright)) (now expression) (now accepting) (now from) (now letter) (now to)) rooms counts ⌝
-    }
-    requires {
-        ⌜ Meets (lent (table (now xkind) (now xleft) (now xright)) (now expression) (now accepting) (now from) (now letter) (now to)) counts i a row ⌝
-    }
-    ensures {
-        λ r.
+    requires { ⌜ Ready (lent (table (now xkind) (now xleft) (now xright)) (now expression) (now accepting) (now from) (now letter) (now to)) rooms counts ⌝ }
+    requires { ⌜ Meets (lent (table (now xkind) (now xleft) (now xright)) (now expression) (now accepting) (now from) (now letter) (now to)) counts i a row ⌝ }
+    ensures { λ r.
         ⌜ Met (lent (table (now (xkind .entry)) (now (xleft .entry)) (now (xright .entry))) (now (expression .entry)) (now (accepting .entry))
-            (now (from .entry)) (now (letter .entry)) (now (to .entry))) counts rooms i a row r
-          (lent (table (now (xkind .entry)) (now (xleft .entry)) (now (xright .entry))) (now (expression .exit)) (now (accepting .exit))
-            (now (from .exit)) (now (letter .exit)) (now (to .exit))) ⌝
-    }
+        (now (from .entry)) (now (letter .entry)) (now (to .entry))) counts rooms i a row r
+        (lent (table (now (xkind .entry)) (now (xleft .entry)) (now (xright .entry))) (now (expression .exit)) (now (accepting .exit))
+        (now (from .exit)) (now (letter .exit)) (now (to .exit))) ⌝ }
 {
     let states = counts.states;
     let arcs = counts.arcs;

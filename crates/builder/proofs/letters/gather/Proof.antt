@@ -53,11 +53,12 @@ loop-less c = search needs
 
 -- src/letters.rt:26:5
 loop-again : tie.Need-loop-again Inv-loop μ-loop
-loop-again c =
-    (omega arith,
-    ⊎-elim (λ w. marked-as (w .3) (marked-letter (c .before .before .before .loop .inv .1) (w .0 .taken) (w .2 .taken)))
-    (⊎-elim (λ w. marked-as (w .3) (marked-far (c .before .before .before .loop .inv .1) (w .0 .taken) (w .2 .left)))
-    (λ w. marked-as (w .1) (marked-other (c .before .before .before .loop .inv .1) (w .0 .left)))) (c .if1 .came))
+loop-again c = (
+  omega arith,
+  ⊎-elim (λ w. marked-as (w .3) (marked-letter (c .before .before .before .loop .inv .1) (w .0 .taken) (w .2 .taken)))
+      (⊎-elim (λ w. marked-as (w .3) (marked-far (c .before .before .before .loop .inv .1) (w .0 .taken) (w .2 .left)))
+      (λ w. marked-as (w .1) (marked-other (c .before .before .before .loop .inv .1) (w .0 .left)))) (c .if1 .came),
+)
 
 -- src/letters.rt:20:1
 returns : tie.Need-returns Inv-loop μ-loop
