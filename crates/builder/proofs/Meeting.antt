@@ -28,10 +28,10 @@ row-sound h l =
 
 module _ {c : Lent} {rooms k : Counts} {i a r : ℕ} (h : Ready c rooms k) (q : Meets c k i a r) (c′ : Lent) where
   pub met-no-arc : rooms .arcs ≤ k .arcs → Met c k rooms i a r NoRoom c′
-  met-no-arc full = record { goes = arc-exceeds (h .progress) i a r (q .row) (q .next) rooms full }
+  met-no-arc full = record { goes = arc-exceeds (h .progress) i a r (q .row) (q .next) rooms full; kept = tt }
 
   pub met-no-state : {j : ℕ} → FirstEqual (c .expression) (k .states) r j → k .states ≤ j → rooms .states ≤ k .states → Met c k rooms i a r NoRoom c′
-  met-no-state f all full = record { goes = new-exceeds (h .progress) i a r (q .row) (q .next) rooms f all full }
+  met-no-state f all full = record { goes = new-exceeds (h .progress) i a r (q .row) (q .next) rooms f all full; kept = tt }
 
 module _ {c : Lent} {rooms k : Counts} {i a r : ℕ} (h : Ready c rooms k) (q : Meets c k i a r) (space : k .arcs < rooms .arcs) where
   in-from : k .arcs < length (c .from)
@@ -75,6 +75,7 @@ module _ {c : Lent} {rooms k : Counts} {i a r : ℕ} (h : Ready c rooms k) (q : 
           known-added (h .progress) i a r (q .row) (q .next) j below (first .found below) in-from in-letter in-to,
           still-roomy j (k .states) (c .expression) (c .accepting) refl refl (h .roomy .states-fit),
         );
+        kept = refl;
       })
 
   pub met-new : {j : ℕ} → FirstEqual (c .expression) (k .states) r j → k .states ≤ j → k .states < rooms .states → (b : ℕ) (f l t : List ℕ)
@@ -91,4 +92,5 @@ module _ {c : Lent} {rooms k : Counts} {i a r : ℕ} (h : Ready c rooms k) (q : 
           still-roomy (k .states) (k .states + 1) (set (c .expression) (k .states) r) (set (c .accepting) (k .states) b) (length-set (c .expression) (k .states) r)
               (length-set (c .accepting) (k .states) b) (omega arith),
         );
+        kept = refl;
       })

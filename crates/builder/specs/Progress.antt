@@ -85,8 +85,14 @@ pub record Meets (c : Lent) (k : Counts) (i a r : ℕ) : Type 0 where
   pub row : r < k .rows
   pub next : Starts (root c) (next-met c k i a r)
 
+-- No row came.
+abbrev pub Kept : ℕ → Went → Type 0
+Kept n (On k) = k .rows ≡ n
+Kept n NoRoom = Unit {0}
+
 pub record Met (c : Lent) (k rooms : Counts) (i a r : ℕ) (w : Went) (c′ : Lent) : Type 0 where
   pub goes : Goes (root c) (next-met c k i a r) rooms w c′
+  pub kept : Kept (k .rows) w
 
 -- The columns of rows and states before the first state: zero, and as long as the rooms.
 pub record Begins (rooms : Counts) (t : Table) (expression accepting : List ℕ) : Type 0 where
