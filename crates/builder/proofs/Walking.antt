@@ -5,11 +5,11 @@ use native.Mathlib.Omega.{arith}
 use mathlib.Core.Path.{_≡_, refl, sym, ap, ap₂, _∙_, subst}
 use mathlib.Core.Logic.{_⊎_, inl, inr, ⊎-elim}
 use mathlib.Core.Option.{Option, none, some}
-use mathlib.Core.List.{List, [], _∷_, _++_, map, map-append, append-assoc, append-nil, List·Memᴰ, List·Memᴰ·head, Memᴰ·cast, Memᴰ·append-left, Memᴰ·append-right}
+use mathlib.Core.List.{List, [], _∷_, _++_, map, map-append, append-assoc, append-nil, List·Memᴰ, List·Memᴰ·head, Memᴰ·cast, Memᴰ·append-right, List·Memᴰ·cases-cons, List·Memᴰ·not-nil}
 use lib.ListN.{length, getD, take, drop, length-append, take-append-drop, List·getD-append}
 use lib.Seq.{take-append-seam}
 use Rattle.theory.specs.Expression.{Expression, ∅, same, parts}
-use Rattle.theory.specs.Distinct.{distinct, Within}
+use Rattle.theory.specs.Distinct.{distinct, NoRepeats, Within}
 use Rattle.theory.specs.Derivative.{derivative}
 use Rattle.theory.specs.Automaton.{states, expressions, successors, alphabet, Derived}
 use Rattle.theory.specs.Table.{Table, trees, tree-at}
@@ -18,18 +18,19 @@ use Rattle.theory.proofs.Distinct.{no-longer, getD-member}
 use Rattle.theory.proofs.Derivative.{derivative-no-repeats}
 use Rattle.theory.proofs.Accepts.Arcs.{to-alphabet}
 use Rattle.theory.proofs.Members.{to-flatMap}
-use Rattle.theory.proofs.Meetings.{Meeting, meeting, meetings, before, so-far, before-letter}
+use Rattle.theory.proofs.Meetings.{Meeting, meeting, meetings, before, so-far, so-far-begins, before-letter}
 use Rattle.theory.proofs.Nearing.{Starts, starts-before, starts-member, states-begin, states-enough, parts-needed}
 use Rattle.theory.proofs.States.{states-derived, derived-states}
 use Rattle.derive.specs.Rows.{Rows, Grown, Needed, Short}
-use Rattle.derive.specs.Walk.{to-come, In-list, Steps, first-of}
+use Rattle.derive.specs.Walk.{to-come, In-list, Steps, first-of, behind}
 use Rattle.derive.specs.declared.walk.Stepped.the-variants.{Found, End, NoRoom}
 use Rattle.derive.specs.declared.walk.Place.{Place}
 use Rattle.derive.specs.declared.walk.Place.the-variants.{Start, Behind}
 use Rattle.derive.proofs.Growing.{grown-tree}
-use Rattle.derive.proofs.Listing.{first-some, first-none, behind-next, behind-head}
-use Rattle.builder.specs.Progress.{Progress, Roomy, Exceeds, Ready, Meets, Met, Leaves, met-so-far, root}
+use Rattle.derive.proofs.Listing.{first-some, first-none, behind-second, behind-head}
+use Rattle.builder.specs.Progress.{Progress, Roomy, Exceeds, Ready, Meets, Met, Leaves, met-so-far, next-met, root}
 use Rattle.builder.specs.declared.arcs.Counts.{Counts}
+use Rattle.builder.specs.declared.arcs.Went.the-variants.{On}
 use Rattle.builder.proofs.Adding.{starts-less}
 
 -- ---- The given expression, and where the meetings stand
@@ -116,6 +117,15 @@ pub record AtMember (e : Expression) (i a r : ℕ) (rooms : Counts) (place : Pla
   pub low : 1 ≤ a
   pub high : a ≤ 255
 
+-- What stands behind a member of a list without repeats.
+behind-split : {ys : List Expression} (q : Expression) (xs zs : List Expression) → NoRepeats (xs ++ (q ∷ zs)) → ys ≡ xs ++ (q ∷ zs) → behind q ys ≡ zs
+behind-split q xs zs once e =
+    ap (behind q) e ∙ behind-second q xs (q ∷ zs) (λ m. not-both xs once m) ∙ behind-head q zs
+  where
+    not-both : (us : List Expression) → NoRepeats (us ++ (q ∷ zs)) → List·Memᴰ q us → ⊥
+    not-both [] o m = List·Memᴰ·not-nil m
+    not-both (u ∷ us) o m = ⊎-elim (λ p. o .0 (Memᴰ·cast (sym p) (Memᴰ·append-right us (List·Memᴰ·head refl)))) (not-both us (o .1)) (List·Memᴰ·cases-cons m)
+
 pub member-first : {c : Lent} {rooms k : Counts} {i a : ℕ} → Ready c rooms k → Leaves c k i a → AtMember (root c) i a (getD (c .expression) i 0) rooms Start c k
 member-first {c} {rooms} {k} {i} {a} h l =
     let e = root c in
@@ -187,5 +197,80 @@ module _ {e : Expression} {i a r : ℕ} {rooms : Counts} {place : Place} {c : Le
         (starts-member e i (a - 1) (m .met ++ (tree-at t row ∷ [])) (next-of .0) (m .within) (omega (arith, letter-is, m .high))
           (ap (λ (b : ℕ). derivative b (getD (states e) i ∅)) letter-is ∙ met-next))
 
+    starts-here : Starts e (before e i (a - 1) ++ map (meeting i a) (m .met))
+    starts-here = starts-less (before e i (a - 1) ++ map (meeting i a) (m .met)) (meeting i a (tree-at t row)) starts-next
+
+    next-is : next-met (with-rows c t) (with-count k n) i a row ≡ (before e i (a - 1) ++ map (meeting i a) (m .met)) ++ (meeting i a (tree-at t row) ∷ [])
+    next-is =
+        ap (λ xs. xs ++ (meeting i a (tree-at t row) ∷ []))
+        (ap₂ (λ (j : ℕ) y. take j (meetings y)) (grown .arc-count) (root-is grown) ∙ starts-take starts-here)
+
     pub found-ready : Ready (with-rows c t) rooms (with-count k n)
-    found-ready = to-ready (starts-less _ _ starts-next) grown (roomy-grown (m .roomy) (s .outcome .0) (s .outcome .1) same-length)
+    found-ready = to-ready starts-here grown (roomy-grown (m .roomy) (s .outcome .0) (s .outcome .1) same-length)
+
+    pub found-meets : Meets (with-rows c t) (with-count k n) i a row
+    found-meets =
+        record {
+          state = m .state;
+          row = s .outcome .2;
+          next = subst (λ y. Starts y (next-met (with-rows c t) (with-count k n) i a row)) (sym (root-is grown)) (subst (Starts e) (sym next-is) starts-next) }
+
+    -- And it is met.
+    module _ {k′ : Counts} (column flags f l o : List ℕ)
+        (w : Met (with-rows c t) (with-count k n) rooms i a row (On k′) (lent t column flags f l o)) where
+      after : Progress e ((before e i (a - 1) ++ map (meeting i a) (m .met)) ++ (meeting i a (tree-at t row) ∷ [])) (lent t column flags f l o) k′
+      after =
+          subst (λ ms. Progress e ms (lent t column flags f l o) k′) next-is
+          (subst (λ y. Progress y (next-met (with-rows c t) (with-count k n) i a row) (lent t column flags f l o) k′) (root-is grown) (w .goes .0))
+
+      still : tree-at t r ≡ getD (states e) i ∅
+      still = grown-tree (s .outcome .0) (m .row-in) ∙ m .row-is
+
+      list-still : derivative a (tree-at t r) ≡ m .met ++ (tree-at t row ∷ next-of .0)
+      list-still = ap (derivative a) still ∙ m .split ∙ ap (λ xs. m .met ++ xs) (next-of .1)
+
+      row-below : row < k′ .rows
+      row-below = subst (λ (j : ℕ). row < j) (sym (w .kept)) (s .outcome .2)
+
+      come : behind (tree-at t row) (derivative a (tree-at t r)) ≡ next-of .0
+      come = behind-split (tree-at t row) (m .met) (next-of .0) (subst NoRepeats list-still (derivative-no-repeats a (tree-at t r))) list-still
+
+      pub member-next : AtMember e i a r rooms (Behind row) (lent t column flags f l o) k′
+      member-next =
+          record {
+            met = m .met ++ (tree-at t row ∷ []);
+            rest = next-of .0;
+            split = met-next;
+            progress =
+              subst (λ ms. Progress e ms (lent t column flags f l o) k′)
+              (append-assoc (before e i (a - 1)) (map (meeting i a) (m .met)) (meeting i a (tree-at t row) ∷ [])
+              ∙ ap (λ xs. before e i (a - 1) ++ xs) (sym (map-append (meeting i a) (m .met) (tree-at t row ∷ []))))
+              after;
+            roomy = w .goes .1;
+            row-in = subst (λ (j : ℕ). r < j) (sym (w .kept)) (lt-of-lt-of-le (m .row-in) (s .outcome .0 .more));
+            row-is = still;
+            standing = (row-below, subst (List·Memᴰ (tree-at t row)) (sym list-still) (Memᴰ·append-right (m .met) (List·Memᴰ·head refl)));
+            coming = come;
+            state =
+              (let b = so-far-begins e (before e i (a - 1) ++ map (meeting i a) (m .met)) (meeting i a (tree-at t row) ∷ []) in
+              omega (arith, m .state, m .progress .state-count, after .state-count, ap length (b .goes-on), length-append (so-far e (before e i (a - 1) ++ map (meeting i a) (m .met))) (b .rest)));
+            within = m .within;
+            low = m .low;
+            high = m .high }
+
+      pub member-less : length (to-come t (Behind row) (derivative a (tree-at t r))) < length (to-come (c .rows) place (derivative a (tree-at (c .rows) r)))
+      member-less = omega (arith, ap length come, ap length (m .coming ∙ next-of .1))
+
+  -- The list is at its end.
+  pub member-end : {n : ℕ} {t : Table} → length (t .kind) ≡ length (c .rows .kind)
+      → Steps (c .rows) (k .rows) (rooms .rows) (derivative a (tree-at (c .rows) r)) place (End n) t
+      → Progress e (before e i a) (with-rows c t) (with-count k n) × Roomy (with-rows c t) rooms (with-count k n)
+  member-end {n} {t} same-length s =
+      let last : m .rest ≡ [] = first-none (m .rest) (ap first-of (sym (m .coming)) ∙ s .outcome .2) in
+      let all : derivative a (getD (states e) i ∅) ≡ m .met = m .split ∙ ap (λ xs. m .met ++ xs) last ∙ append-nil (m .met) in
+      let whole : before e i a ≡ before e i (a - 1) ++ map (meeting i a) (m .met) =
+        ap (before e i) (sym letter-is) ∙ before-letter e i (a - 1)
+        ∙ ap (λ (b : ℕ). before e i (a - 1) ++ map (meeting i b) (derivative b (getD (states e) i ∅))) letter-is
+        ∙ ap (λ xs. before e i (a - 1) ++ map (meeting i a) xs) all in
+      (subst (λ ms. Progress e ms (with-rows c t) (with-count k n)) (sym whole) (progress-grown (m .progress) (s .outcome .0) (λ z h. all-needed z (s .outcome .3 z h))),
+       roomy-grown (m .roomy) (s .outcome .0) (s .outcome .1) same-length)
