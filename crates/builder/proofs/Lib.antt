@@ -3,3 +3,4 @@ pub mod Adding
 pub mod Meeting
 pub mod Starting
 pub mod Walking
+pub mod Lengths

@@ -22,15 +22,17 @@ use Rattle.theory.proofs.Meetings.{Meeting, meeting, meetings, before, so-far, 
 use Rattle.theory.proofs.Nearing.{Starts, starts-before, starts-member, states-begin, states-enough, parts-needed}
 use Rattle.theory.proofs.States.{states-derived, derived-states}
 use Rattle.derive.specs.Rows.{Rows, Grown, Needed, Short}
-use Rattle.derive.specs.Walk.{to-come, In-list, Steps, first-of, behind}
-use Rattle.derive.specs.declared.walk.Stepped.the-variants.{Found, End, NoRoom}
+use Rattle.derive.specs.Walk.{to-come, In-list, Steps, Gives, first-of, behind}
+use Rattle.derive.specs.declared.walk.Stepped.{Stepped}
+use Rattle.derive.specs.declared.walk.Stepped.the-variants.{Found, End}
 use Rattle.derive.specs.declared.walk.Place.{Place}
 use Rattle.derive.specs.declared.walk.Place.the-variants.{Start, Behind}
 use Rattle.derive.proofs.Growing.{grown-tree}
 use Rattle.derive.proofs.Listing.{first-some, first-none, behind-second, behind-head}
 use Rattle.builder.specs.Progress.{Progress, Roomy, Exceeds, Ready, Meets, Met, Leaves, met-so-far, next-met, root}
 use Rattle.builder.specs.declared.arcs.Counts.{Counts}
-use Rattle.builder.specs.declared.arcs.Went.the-variants.{On}
+use Rattle.builder.specs.declared.arcs.Went.{Went}
+use Rattle.builder.specs.declared.arcs.Went.the-variants.{On, NoRoom}
 use Rattle.builder.proofs.Adding.{starts-less}
 
 -- ---- The given expression, and where the meetings stand
@@ -215,6 +217,10 @@ module _ {e : Expression} {i a r : ℕ} {rooms : Counts} {place : Place} {c : Le
           row = s .outcome .2;
           next = subst (λ y. Starts y (next-met (with-rows c t) (with-count k n) i a row)) (sym (root-is grown)) (subst (Starts e) (sym next-is) starts-next) }
 
+    -- There is no room for it.
+    pub member-full : {c′ : Lent} → Met (with-rows c t) (with-count k n) rooms i a row NoRoom c′ → Exceeds e rooms
+    member-full w = subst (λ y. Exceeds y rooms) (root-is grown) (w .goes)
+
     -- And it is met.
     module _ {k′ : Counts} (column flags f l o : List ℕ)
         (w : Met (with-rows c t) (with-count k n) rooms i a row (On k′) (lent t column flags f l o)) where
@@ -274,3 +280,11 @@ module _ {e : Expression} {i a r : ℕ} {rooms : Counts} {place : Place} {c : Le
         ∙ ap (λ xs. before e i (a - 1) ++ map (meeting i a) xs) all in
       (subst (λ ms. Progress e ms (with-rows c t) (with-count k n)) (sym whole) (progress-grown (m .progress) (s .outcome .0) (λ z h. all-needed z (s .outcome .3 z h))),
        roomy-grown (m .roomy) (s .outcome .0) (s .outcome .1) same-length)
+
+-- ---- Answers told by a match
+
+pub gives-as : {t t′ : Table} {n room : ℕ} {ms xs : List Expression} {r r′ : Stepped} → r ≡ r′ → Gives t n room ms xs r t′ → Gives t n room ms xs r′ t′
+gives-as {t} {t′} {n} {room} {ms} {xs} q g = subst (λ s. Gives t n room ms xs s t′) q g
+
+pub met-as : {c c′ : Lent} {k rooms : Counts} {i a r : ℕ} {w w′ : Went} → w ≡ w′ → Met c k rooms i a r w c′ → Met c k rooms i a r w′ c′
+met-as {c} {c′} {k} {rooms} {i} {a} {r} q m = subst (λ v. Met c k rooms i a r v c′) q m
