@@ -4,3 +4,4 @@ pub mod Meeting
 pub mod Starting
 pub mod Walking
 pub mod Lengths
+pub mod Leaving
