@@ -5,3 +5,4 @@ pub mod Starting
 pub mod Walking
 pub mod Lengths
 pub mod Leaving
+pub mod Filling

@@ -9,11 +9,11 @@ use Rattle.builder.proofs.states.start.Reads as start-reads
 
 abbrev Inv-loop : tie.InvT-loop
 Inv-loop kind left right rooms xkind₀ xleft₀ xright₀ expression₀ accepting₀ from₀ letter₀ to₀ letters n₀ i₀ xkind xleft xright expression accepting from letter to n i =
-    ?
+    AtState (tree (table kind left right)) i rooms (lent (table xkind xleft xright) expression accepting from letter to) n × SameLengths (lent (table xkind₀ xleft₀ xright₀) expression₀ accepting₀ from₀ letter₀ to₀) (lent (table xkind xleft xright) expression accepting from letter to)
 
 abbrev μ-loop : tie.MeasureT-loop
 μ-loop kind left right rooms xkind₀ xleft₀ xright₀ expression₀ accepting₀ from₀ letter₀ to₀ letters n₀ i₀ xkind xleft xright expression accepting from letter to n i =
-    ?
+    rooms .states - i
 
 -- src/states.rt:201:9
 gather-requires : tie.Need-gather-requires Inv-loop μ-loop
