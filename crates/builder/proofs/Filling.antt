@@ -14,15 +14,16 @@ use Rattle.theory.specs.Distinct.{distinct, without}
 use Rattle.theory.specs.Automaton.{states, ascending}
 use Rattle.theory.specs.Column.{zeros, filled}
 use Rattle.theory.specs.Table.{Table, table, tree}
-use Rattle.theory.specs.Build.{Lent, Names}
+use Rattle.theory.specs.Build.{Lent, lent, Names}
 use Rattle.theory.specs.Derivative.{empty-word}
 use Rattle.theory.proofs.Below.{some-at}
 use Rattle.theory.proofs.Used.{letters-entered}
 use Rattle.theory.proofs.Meetings.{Meeting, meetings, before, by-letters, by-states, so-far, so-far-begins, before-state}
 use Rattle.theory.proofs.Nearing.{Starts, starts-before, states-enough, all-left}
 use Rattle.builder.specs.Letters.{uses}
-use Rattle.builder.specs.Progress.{Progress, Roomy, Exceeds, Ready, LeavesAll, Knows, Reaches, Standing, Blank, root}
+use Rattle.builder.specs.Progress.{Progress, Roomy, Exceeds, Ready, LeavesAll, Knows, Reaches, Standing, Begun, Blank, root}
 use Rattle.builder.specs.declared.arcs.Counts.{Counts}
+use Rattle.builder.specs.declared.arcs.Went.{Went}
 use Rattle.builder.specs.declared.arcs.Went.the-variants.{On, NoRoom}
 use Rattle.builder.proofs.Walking.{root-is, to-ready}
 
@@ -89,6 +90,17 @@ state-first {e} {rooms} {k} {c} h zf zl zt ri rs si ai ss as-small fi li ti =
           arcs-fit = omega (arith, h .no-arc) };
       starts = record { rest = meetings e; goes-on = ap (λ ms. ms ++ meetings e) (sym (nothing-before e)) };
       below = omega arith }
+
+-- From blank columns, of which `start` has changed those of rows and states.
+pub state-begins : {e : Expression} {rooms k : Counts} {t₀ t : Table} {x₀ x a₀ a from letter to : List ℕ} → Blank rooms (lent t₀ x₀ a₀ from letter to)
+    → length (t .kind) ≡ length (t₀ .kind) → length x ≡ length x₀ → length a ≡ length a₀ → Standing e rooms k t x a → AtState e 0 rooms (lent t x a from letter to) k
+state-begins b lk lx la h =
+    state-first h (b .from-zero) (b .letter-zero) (b .to-zero)
+    (omega (arith, b .begins .rows-in, lk)) (b .begins .rows-small) (omega (arith, b .begins .states-in, lx)) (omega (arith, b .begins .accepting-in, la))
+    (b .states-small) (b .arcs-small) (b .from-in) (b .letter-in) (b .to-in)
+
+pub begun-as : (e : Expression) (rooms : Counts) (t : Table) (x a : List ℕ) {w w′ : Went} → w ≡ w′ → Begun e rooms w t x a → Begun e rooms w′ t x a
+begun-as e rooms t x a q h = subst (λ v. Begun e rooms v t x a) q h
 
 module _ {e : Expression} {i : ℕ} {rooms : Counts} {c : Lent} {k : Counts} (m : AtState e i rooms c k) where
   pub state-ready : Ready c rooms k
