@@ -48,7 +48,11 @@ pub fn meet(
             return Went::NoRoom;
         }
         expression[states] = row as u16;
-        accepting[states] = if derive::rows::empty_word(xkind, xleft, xright, row) { 1 } else { 0 };
+        accepting[states] = if derive::rows::empty_word(xkind, xleft, xright, row) {
+            1
+        } else {
+            0
+        };
         now_states = states + 1;
     }
     if rooms.arcs <= arcs {

@@ -1,15 +1,22 @@
 // The builder: the partial derivative automaton of an expression table, in the lent columns.
 
+mod arcs;
 mod letters;
 mod states;
-mod arcs;
 
 use columns::Row;
 
 // 01: refused with 1 to 9, or the three counts.
 pub enum Building {
-    Refused { number: u8, place: usize },
-    Built { states: usize, expressions: usize, arcs: usize },
+    Refused {
+        number: u8,
+        place: usize,
+    },
+    Built {
+        states: usize,
+        expressions: usize,
+        arcs: usize,
+    },
 }
 
 pub fn build(
@@ -25,23 +32,69 @@ pub fn build(
     letter: &mut [u8],
     to: &mut [u16],
 ) -> Building {
-    clear_all(xkind, xleft, xright, expression, accepting, from, letter, to);
-    if !even(xkind, xleft, xright, expression, accepting, from, letter, to) {
-        return Building::Refused { number: 1, place: 0 };
+    clear_all(
+        xkind,
+        xleft,
+        xright,
+        expression,
+        accepting,
+        from,
+        letter,
+        to,
+    );
+    if !even(
+        xkind,
+        xleft,
+        xright,
+        expression,
+        accepting,
+        from,
+        letter,
+        to,
+    ) {
+        return Building::Refused {
+            number: 1,
+            place: 0,
+        };
     }
     if let table::Checked::Refused { number, place } = table::check(kind, left, right) {
         return Building::Refused { number, place };
     }
     let rooms = rooms(xkind.len(), expression.len(), from.len());
-    match states::fill(kind, left, right, rooms, xkind, xleft, xright, expression, accepting, from, letter, to) {
+    match states::fill(
+        kind,
+        left,
+        right,
+        rooms,
+        xkind,
+        xleft,
+        xright,
+        expression,
+        accepting,
+        from,
+        letter,
+        to,
+    ) {
         arcs::Went::On { counts } => Building::Built {
             states: counts.states,
             expressions: counts.rows,
             arcs: counts.arcs,
         },
         arcs::Went::NoRoom => {
-            clear_all(xkind, xleft, xright, expression, accepting, from, letter, to);
-            Building::Refused { number: 9, place: 0 }
+            clear_all(
+                xkind,
+                xleft,
+                xright,
+                expression,
+                accepting,
+                from,
+                letter,
+                to,
+            );
+            Building::Refused {
+                number: 9,
+                place: 0,
+            }
         }
     }
 }

@@ -4,9 +4,9 @@ use super::arcs::Counts;
 use super::arcs::Went;
 use super::letters::Letters;
 use super::letters::Next;
+use derive::rows::Interned;
 use derive::walk::Place;
 use derive::walk::Stepped;
-use derive::rows::Interned;
 
 // The members of the derivative of state i by the letter a.
 fn members(
@@ -35,7 +35,19 @@ fn members(
                     arcs: n.arcs,
                 };
                 let Went::On { counts: m } = super::arcs::meet(
-                    i, a, row, grown, rooms, xkind, xleft, xright, expression, accepting, from, letter, to,
+                    i,
+                    a,
+                    row,
+                    grown,
+                    rooms,
+                    xkind,
+                    xleft,
+                    xright,
+                    expression,
+                    accepting,
+                    from,
+                    letter,
+                    to,
                 ) else {
                     return Went::NoRoom;
                 };
@@ -78,7 +90,18 @@ fn leaving(
             return Went::On { counts: n };
         };
         let Went::On { counts: m } = members(
-            i, b, n, rooms, xkind, xleft, xright, expression, accepting, from, letter, to,
+            i,
+            b,
+            n,
+            rooms,
+            xkind,
+            xleft,
+            xright,
+            expression,
+            accepting,
+            from,
+            letter,
+            to,
         ) else {
             return Went::NoRoom;
         };
@@ -105,13 +128,25 @@ fn start(
     xkind[0] = 1;
     let room = rooms.rows;
     let root = kind.len() - 1;
-    let Interned::At { row, used } =
-        derive::rows::take_over(kind, left, right, root, xkind, xleft, xright, 1, room)
-    else {
+    let Interned::At { row, used } = derive::rows::take_over(
+        kind,
+        left,
+        right,
+        root,
+        xkind,
+        xleft,
+        xright,
+        1,
+        room,
+    ) else {
         return Went::NoRoom;
     };
     expression[0] = row as u16;
-    accepting[0] = if derive::rows::empty_word(xkind, xleft, xright, row) { 1 } else { 0 };
+    accepting[0] = if derive::rows::empty_word(xkind, xleft, xright, row) {
+        1
+    } else {
+        0
+    };
     Went::On {
         counts: Counts {
             rows: used,
@@ -136,14 +171,35 @@ pub fn fill(
     to: &mut [u16],
 ) -> Went {
     let letters = super::letters::gather(kind, left);
-    let Went::On { counts } = start(kind, left, right, rooms, xkind, xleft, xright, expression, accepting) else {
+    let Went::On { counts } = start(
+        kind,
+        left,
+        right,
+        rooms,
+        xkind,
+        xleft,
+        xright,
+        expression,
+        accepting,
+    ) else {
         return Went::NoRoom;
     };
     let mut n = counts;
     let mut i = 0;
     while i < n.states {
         let Went::On { counts: m } = leaving(
-            i, letters, n, rooms, xkind, xleft, xright, expression, accepting, from, letter, to,
+            i,
+            letters,
+            n,
+            rooms,
+            xkind,
+            xleft,
+            xright,
+            expression,
+            accepting,
+            from,
+            letter,
+            to,
         ) else {
             return Went::NoRoom;
         };

@@ -122,28 +122,12 @@ pub fn lift(
     if member == 0 {
         return super::rows::Interned::At { row: other, used };
     }
+    let m = member as u16;
+    let o = other as u16;
     if first {
-        return super::rows::intern(
-            kind,
-            left,
-            right,
-            used,
-            room,
-            sign,
-            member as u16,
-            other as u16,
-        );
+        return super::rows::intern(kind, left, right, used, room, sign, m, o);
     }
-    super::rows::intern(
-        kind,
-        left,
-        right,
-        used,
-        room,
-        sign,
-        other as u16,
-        member as u16,
-    )
+    super::rows::intern(kind, left, right, used, room, sign, o, m)
 }
 
 // The member of a pair with `o`, where that is `other`. A join with the literal empty word is never made, though the given expression

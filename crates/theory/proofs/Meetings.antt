@@ -119,8 +119,9 @@ so-far-begins e done rest =
     record {
       rest = beyond same (e ∷ targets done) (distinct same (targets rest));
       goes-on =
-        ap (λ ys. distinct same (e ∷ ys)) (map-append (λ (m : Meeting). m .target) done rest)
-        ∙ distinct-append same (e ∷ targets done) (targets rest) }
+          ap (λ ys. distinct same (e ∷ ys)) (map-append (λ (m : Meeting). m .target) done rest)
+          ∙ distinct-append same (e ∷ targets done) (targets rest);
+    }
 
 pub so-far-known : (e : Expression) (done : List Meeting) (m : Meeting) → List·Memᴰ (m .target) (so-far e done)
     → so-far e (done ++ (m ∷ [])) ≡ so-far e done
@@ -150,7 +151,7 @@ ascending-split first zero n = ap₂ ascending (sym (add-zero first)) (zero-add 
 ascending-split first (suc m) n =
     ap (ascending first) (suc-add m n)
     ∙ ap {B = List ℕ} (λ (t : List ℕ). first ∷ t)
-      (ascending-split (suc first) m n ∙ ap (λ (k : ℕ). ascending (suc first) m ++ ascending k n) (suc-add first m ∙ sym (add-suc first m)))
+    (ascending-split (suc first) m n ∙ ap (λ (k : ℕ). ascending (suc first) m ++ ascending k n) (suc-add first m ∙ sym (add-suc first m)))
 
 pub by-letters-append : (i : ℕ) (x : Expression) (us vs : List ℕ) → by-letters i x (us ++ vs) ≡ by-letters i x us ++ by-letters i x vs
 unfolding by-letters
@@ -172,7 +173,7 @@ before-letter e i a =
     let x = getD (states e) i ∅ in
     ap (λ ls. by-states 0 (take i (states e)) ++ by-letters i x ls) (ascending-more 1 a ∙ ap (λ (k : ℕ). ascending 1 a ++ (k ∷ [])) (one-add a))
     ∙ ap (λ ms. by-states 0 (take i (states e)) ++ ms)
-      (by-letters-append i x (ascending 1 a) (suc a ∷ []) ∙ ap (λ ms. by-letters i x (ascending 1 a) ++ ms) (append-nil (map (meeting i (suc a)) (derivative (suc a) x))))
+    (by-letters-append i x (ascending 1 a) (suc a ∷ []) ∙ ap (λ ms. by-letters i x (ascending 1 a) ++ ms) (append-nil (map (meeting i (suc a)) (derivative (suc a) x))))
     ∙ sym (append-assoc (by-states 0 (take i (states e))) (by-letters i x (ascending 1 a)) (map (meeting i (suc a)) (derivative (suc a) x)))
 
 -- Letters by which nothing is met may be left out.
@@ -190,5 +191,5 @@ before-state e i l =
     ∙ ap (by-states 0) (take-suc (states e) i ∅ l)
     ∙ by-states-append 0 (take i (states e)) (getD (states e) i ∅ ∷ [])
     ∙ ap (λ ms. by-states 0 (take i (states e)) ++ ms)
-      (append-nil (by-letters (0 + length (take i (states e))) (getD (states e) i ∅) alphabet)
-      ∙ ap (λ (k : ℕ). by-letters k (getD (states e) i ∅) alphabet) (zero-add _ ∙ length-take-le i (states e) (omega arith))))
+    (append-nil (by-letters (0 + length (take i (states e))) (getD (states e) i ∅) alphabet)
+    ∙ ap (λ (k : ℕ). by-letters k (getD (states e) i ∅) alphabet) (zero-add _ ∙ length-take-le i (states e) (omega arith))))

@@ -35,7 +35,7 @@ module _ {e : Expression} {done : List Meeting} (s : Starts e done) where
       let at : getD (states e) i d ≡ getD (so-far e done) i d = ap (λ xs. getD xs i d) (b .goes-on) ∙ List·getD-append (so-far e done) (b .rest) d i l in
       ap (λ x. place same x (states e)) (sym at)
       ∙ place-of same (states e) i d (states-no-repeats e)
-        (lt-of-lt-of-le l (le-trans (le-add-right _ _) (le-of-eq (sym (ap length (b .goes-on) ∙ length-append (so-far e done) (b .rest))))))
+      (lt-of-lt-of-le l (le-trans (le-add-right _ _) (le-of-eq (sym (ap length (b .goes-on) ∙ length-append (so-far e done) (b .rest))))))
 
   pub states-enough : length (so-far e done) ≤ length (states e)
   states-enough = let b = states-begin in omega (arith, ap length (b .goes-on), length-append (so-far e done) (b .rest))
@@ -63,14 +63,15 @@ starts-before e i a l h =
     record {
       rest = more;
       goes-on =
-        ap (by-states 0) (split-at (states e) i ∅ l)
-        ∙ by-states-append 0 (take i (states e)) (x ∷ later)
-        ∙ ap (λ ms. by-states 0 (take i (states e)) ++ ms)
+          ap (by-states 0) (split-at (states e) i ∅ l)
+          ∙ by-states-append 0 (take i (states e)) (x ∷ later)
+          ∙ ap (λ ms. by-states 0 (take i (states e)) ++ ms)
           (ap (λ (k : ℕ). by-states k (x ∷ later)) (zero-add _ ∙ length-take-le i (states e) (omega arith))
           ∙ ap (λ ls. by-letters i x ls ++ by-states (suc i) later) (letters-split a h)
           ∙ ap (λ ms. ms ++ by-states (suc i) later) (by-letters-append i x (ascending 1 a) (ascending (1 + a) (255 - a)))
           ∙ append-assoc (by-letters i x (ascending 1 a)) (by-letters i x (ascending (1 + a) (255 - a))) (by-states (suc i) later))
-        ∙ sym (append-assoc (by-states 0 (take i (states e))) (by-letters i x (ascending 1 a)) more) }
+          ∙ sym (append-assoc (by-states 0 (take i (states e))) (by-letters i x (ascending 1 a)) more);
+    }
 
 -- A member of the list by letter a of state i is met.
 pub starts-member : (e : Expression) (i a : ℕ) (ms rest : List Expression) → i < length (states e) → suc a ≤ 255
@@ -81,9 +82,10 @@ starts-member e i a ms rest l h q =
     record {
       rest = map by rest ++ s .rest;
       goes-on =
-        s .goes-on
-        ∙ ap (λ xs. xs ++ s .rest) (before-letter e i a ∙ ap (λ xs. before e i a ++ map by xs) q ∙ ap (λ xs. before e i a ++ xs) (map-append by ms rest) ∙ sym (append-assoc (before e i a) (map by ms) (map by rest)))
-        ∙ append-assoc (before e i a ++ map by ms) (map by rest) (s .rest) }
+          s .goes-on
+          ∙ ap (λ xs. xs ++ s .rest) (before-letter e i a ∙ ap (λ xs. before e i a ++ map by xs) q ∙ ap (λ xs. before e i a ++ xs) (map-append by ms rest) ∙ sym (append-assoc (before e i a) (map by ms) (map by rest)))
+          ∙ append-assoc (before e i a ++ map by ms) (map by rest) (s .rest);
+    }
 
 -- ---- Letters that are not used
 
@@ -121,5 +123,5 @@ all-left e i s q =
     let whole : before e i 0 ≡ by-states 0 ss = append-nil (by-states 0 (take i (states e))) ∙ ap (by-states 0) first in
     let closed : met e ss ≡ ss = sym (so-far-met e ss) ∙ ap (so-far e) (sym whole) in
     let same-states : ss ≡ states e =
-      states-only e ss closed (λ m k. states-derived e m (subst (List·Memᴰ m) (sym (b .goes-on)) (Memᴰ·append-left (b .rest) k))) in
+    states-only e ss closed (λ m k. states-derived e m (subst (List·Memᴰ m) (sym (b .goes-on)) (Memᴰ·append-left (b .rest) k))) in
     whole ∙ ap (by-states 0) same-states

@@ -68,13 +68,15 @@ unfoldable pub counts : Table → Lent → Counts
 unfolding build-refusal tree states expressions arcs
 counts g c =
     elim (eqb ((build-refusal g c) .number) 0) [
-      true ↦
-        record {
-          refusal = success;
-          states = length (states (tree g));
-          expressions = length (expressions (tree g));
-          arcs = length (arcs (tree g)) }
-    | false ↦ record { refusal = build-refusal g c; states = 0; expressions = 0; arcs = 0 } ]
+      | true ↦
+          record {
+            refusal = success;
+            states = length (states (tree g));
+            expressions = length (expressions (tree g));
+            arcs = length (arcs (tree g));
+          }
+      | false ↦ record { refusal = build-refusal g c; states = 0; expressions = 0; arcs = 0 }
+    ]
 
 -- ---- The columns at exit
 
