@@ -1,10 +1,9 @@
 -- The next member of the right side that the left side does not have: members of both are passed over one at a time. Assumes nothing.
 use Prim.Native.Nat.{ℕ, suc, _≤_, _<_}
 use native.Mathlib.Nat.{le-refl}
-use mathlib.Core.Path.{_≡_, refl, sym, ap, ap₂, _∙_, subst}
-use mathlib.Core.Option.{none, some}
+use mathlib.Core.Path.{_≡_, refl, sym, ap, _∙_, subst}
 use mathlib.Core.Logic.{inl}
-use mathlib.Core.List.{List, [], _∷_, List·Memᴰ}
+use mathlib.Core.List.{List, _∷_, List·Memᴰ}
 use lib.ListN.{length}
 use Rattle.theory.specs.Expression.{Expression}
 use Rattle.theory.specs.Distinct.{NoRepeats}
@@ -14,12 +13,12 @@ use Rattle.derive.specs.declared.walk.Place.{Place}
 use Rattle.derive.specs.declared.walk.Place.the-variants.{Start, Behind}
 use Rattle.derive.specs.declared.walk.Stepped.{Stepped}
 use Rattle.derive.specs.declared.walk.Stepped.the-variants.{Found, End, NoRoom}
-use Rattle.derive.specs.Rows.{Rows, Grown, Needed, Short}
+use Rattle.derive.specs.Rows.{Rows, Grown, Needed}
 use Rattle.derive.specs.Sides.{Within-row, side-list}
 use Rattle.derive.specs.Walk.{behind, beyond, first-of, to-come, In-list, Side-among, Outcome, Gives, Steps}
-use Rattle.derive.proofs.Growing.{grown-none, grown-trans, grown-tree}
+use Rattle.derive.proofs.Growing.{grown-none, grown-trans}
 use Rattle.derive.proofs.Listing.{first-none, first-some, first-member, behind-head, behind-next, beyond-nil, beyond-keep, beyond-pass}
-use Rattle.derive.proofs.Needing.{short-more, needed-later, grown-list, grown-side, grown-place}
+use Rattle.derive.proofs.Needing.{short-more, needed-later, grown-list, grown-side}
 use Rattle.derive.proofs.SideStep.{to-come-within}
 use Rattle.derive.proofs.Siding.{side-no-repeats}
 

@@ -1,23 +1,23 @@
 -- A step along a row's list from steps along its two sides. Assumes nothing.
-use Prim.Native.Nat.{ℕ, suc, _≤_, _<_}
+use Prim.Native.Nat.{ℕ, _≤_, _<_}
 use native.Mathlib.Decide.{ℕ-discrete}
 use mathlib.Core.Path.{_≡_, refl, sym, ap, ap₂, _∙_, subst}
 use mathlib.Core.Option.{none, some}
-use mathlib.Core.Logic.{_⊎_, inl, inr, ⊎-elim}
-use mathlib.Core.List.{List, [], _∷_, _++_, List·Memᴰ, List·Memᴰ·not-nil, List·Memᴰ·eq-of-singleton}
+use mathlib.Core.Logic.{inl, ⊎-elim}
+use mathlib.Core.List.{List, [], _++_, List·Memᴰ, List·Memᴰ·not-nil, List·Memᴰ·eq-of-singleton}
 use Rattle.theory.specs.Expression.{Expression, same, ε}
-use Rattle.theory.specs.Distinct.{NoRepeats, Within, distinct}
+use Rattle.theory.specs.Distinct.{Within, distinct}
 use Rattle.theory.specs.Derivative.{derivative}
-use Rattle.theory.specs.Table.{Table, Row, row, trees, tree-at}
+use Rattle.theory.specs.Table.{Table, Row, row, tree-at}
 use Rattle.derive.specs.declared.sides.Side.{Side}
 use Rattle.derive.specs.declared.walk.Place.{Place}
 use Rattle.derive.specs.declared.walk.Place.the-variants.{Start, Behind}
 use Rattle.derive.specs.declared.walk.Stepped.{Stepped}
 use Rattle.derive.specs.declared.walk.Stepped.the-variants.{Found, End, NoRoom}
-use Rattle.derive.specs.Rows.{Rows, Grown, Needed, Short}
+use Rattle.derive.specs.Rows.{Rows, Needed}
 use Rattle.derive.specs.Sides.{Within-row, side-list, left-side, right-side}
-use Rattle.derive.specs.Walk.{behind, beyond, first-of, to-come, In-list, Stands, Side-among, Place-among, Outcome, Gives, Steps}
-use Rattle.derive.proofs.Growing.{grown-none, grown-trans, grown-tree}
+use Rattle.derive.specs.Walk.{behind, beyond, first-of, to-come, In-list, Stands, Place-among, Outcome, Gives, Steps}
+use Rattle.derive.proofs.Growing.{grown-none, grown-trans}
 use Rattle.derive.proofs.Listing.{first-none, first-append, behind-first, behind-second, behind-beyond, behind-head, distinct-beyond}
 use Rattle.derive.proofs.Membership.{left-has, right-has, sides-have, letter-same, letter-other, weight, left-falls, left-stays, right-falls, right-stays}
 use Rattle.derive.proofs.Needing.{short-more, needed-within, needed-later, grown-list, grown-side}

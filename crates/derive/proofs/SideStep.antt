@@ -1,14 +1,13 @@
 -- A step along a side's list, from a step along its child's. Assumes nothing.
-use Prim.Native.Nat.{ℕ, suc, _≤_, _<_}
+use Prim.Native.Nat.{ℕ, _≤_, _<_}
 use native.Mathlib.Omega.{arith}
-use native.Mathlib.Nat.{le-refl, lt-of-lt-of-le}
-use mathlib.Core.Path.{_≡_, refl, sym, ap, ap₂, _∙_, subst}
+use native.Mathlib.Nat.{lt-of-lt-of-le}
+use mathlib.Core.Path.{_≡_, refl, sym, ap, _∙_, subst}
 use mathlib.Core.Bool.{Bool}
 use mathlib.Core.Option.{none, some}
-use mathlib.Core.Logic.{_⊎_, inl, inr, ⊎-elim}
-use mathlib.Core.List.{List, [], _∷_, map, List·Memᴰ, List·Memᴰ·head, List·Memᴰ·cases-cons, Memᴰ·cast, Memᴰ·map, Memᴰ·of-map}
-use lib.ListN.{length}
-use Rattle.theory.specs.Expression.{Expression, Sign, parts}
+use mathlib.Core.Logic.{inl, inr, ⊎-elim}
+use mathlib.Core.List.{List, [], _∷_, map, List·Memᴰ, List·Memᴰ·cases-cons, Memᴰ·cast, Memᴰ·of-map}
+use Rattle.theory.specs.Expression.{Expression}
 use Rattle.theory.specs.Derivative.{derivative}
 use Rattle.theory.specs.Table.{Table, trees, tree-at}
 use Rattle.theory.proofs.Trees.{trees-length}
@@ -22,7 +21,7 @@ use Rattle.derive.specs.declared.walk.Place.{Place}
 use Rattle.derive.specs.declared.walk.Place.the-variants.{Start, Behind}
 use Rattle.derive.specs.declared.walk.Stepped.{Stepped}
 use Rattle.derive.specs.declared.walk.Stepped.the-variants.{Found, End, NoRoom}
-use Rattle.derive.specs.Rows.{Rows, Grown, Needed, Short, Interns}
+use Rattle.derive.specs.Rows.{Rows, Needed, Interns}
 use Rattle.derive.specs.Sides.{Within-row, side-sign, beside, side-list, lowered}
 use Rattle.derive.specs.Walk.{behind, first-of, to-come, In-list, behind-lowered, lowered-place, Outcome, Gives, Steps}
 use Rattle.derive.proofs.Growing.{grown-none, grown-trans, grown-tree}

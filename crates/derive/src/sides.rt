@@ -130,18 +130,18 @@ pub fn lift(
     super::rows::intern(kind, left, right, used, room, sign, o, m)
 }
 
-// The member of a pair with `o`, where that is `other`. A join with the literal empty word is never made, though the given expression
+// The member of a pair, a row, where `o` beside it is `other`. A join with the literal empty word is never made, though the given expression
 // may hold one.
-fn kept(member: usize, o: usize, other: usize) -> Lowered
-    ensures { λ r. ⌜ r ≡ choose (eqb o other && not (eqb member 0)) (Lowered.Member member) Lowered.Outside ⌝ }
+fn kept(row: usize, o: usize, other: usize) -> Lowered
+    ensures { λ r. ⌜ r ≡ choose (eqb o other && not (eqb row 0)) (Lowered.Member row) Lowered.Outside ⌝ }
 {
     if o != other {
         return Lowered::Outside;
     }
-    if member == 0 {
+    if row == 0 {
         return Lowered::Outside;
     }
-    Lowered::Member { row: member }
+    Lowered::Member { row }
 }
 
 // The member whose join with `other` is the row p.
