@@ -14,7 +14,7 @@ use Rattle.derive.proofs.Growing.{grown-none}
 use Rattle.derive.proofs.Joining.{pair, beside-literal, beside-ε, beside-pair}
 use Rattle.derive.proofs.Lowering.{sign-kind, not-ε}
 
-joins-sound : {n kind l r : ℕ} → 4 ≤ kind → kind ≤ 5 → l < n → r < n → Sound n (entry kind l r)
+pub joins-sound : {n kind l r : ℕ} → 4 ≤ kind → kind ≤ 5 → l < n → r < n → Sound n (entry kind l r)
 joins-sound {kind = kind} {l = l} {r = r} low high hl hr =
     of-sign (side-sign kind) l r hl hr (ap (λ (k : ℕ). entry k l r) (sym (sign-kind kind low high)))
 
@@ -31,44 +31,37 @@ pub record Lifts (t : Table) (n room other member kind : ℕ) : Type 0 where
   pub low : 4 ≤ kind
   pub high : kind ≤ 5
 
-module _ {t : Table} {n room other member kind : ℕ} (k : Lifts t n room other member kind) where
-  pub first-sound : Sound n (entry kind member other)
-  first-sound = joins-sound (k .low) (k .high) (k .member-within) (k .other-within)
+module _ {t : Table} {n room other member kind : ℕ} (k : Lifts t n room other member kind) (first : Bool) where
+  pub lift-literal : other ≡ 0 → Interns t n room (join-at t other kind first member) (At member n) t
+  lift-literal e = (
+    grown-none (k .rows),
+    k .space,
+    k .member-within,
+    sym (ap (λ o. beside (side-sign kind) o first (tree-at t member)) (ap (tree-at t) e ∙ k .rows .literal) ∙ beside-literal (side-sign kind) first (tree-at t member)),
+    λ z m. List·Memᴰ·tail m,
+  )
 
-  pub second-sound : Sound n (entry kind other member)
-  second-sound = joins-sound (k .low) (k .high) (k .other-within) (k .member-within)
+  pub lift-empty : member ≡ 0 → Interns t n room (join-at t other kind first member) (At other n) t
+  lift-empty e = (
+    grown-none (k .rows),
+    k .space,
+    k .other-within,
+    sym (ap (beside (side-sign kind) (tree-at t other) first) (ap (tree-at t) e ∙ k .rows .literal) ∙ beside-ε (side-sign kind) (tree-at t other) first),
+    λ z m. List·Memᴰ·tail m,
+  )
 
-  module _ (first : Bool) where
-    pub lift-literal : other ≡ 0 → Interns t n room (join-at t other kind first member) (At member n) t
-    lift-literal e = (
-      grown-none (k .rows),
-      k .space,
-      k .member-within,
-      sym (ap (λ o. beside (side-sign kind) o first (tree-at t member)) (ap (tree-at t) e ∙ k .rows .literal) ∙ beside-literal (side-sign kind) first (tree-at t member)),
-      λ z m. List·Memᴰ·tail m,
-    )
+  entry-tree : {l r : ℕ} → l < n → r < n → row-tree (entry kind l r) (trees t n) ≡ binary (side-sign kind) (tree-at t l) (tree-at t r)
+  entry-tree {l} {r} hl hr =
+      ap (λ (j : ℕ). row-tree (entry j l r) (trees t n)) (sym (sign-kind kind (k .low) (k .high))) ∙ sign-tree (side-sign kind) l r (trees t n)
+      ∙ ap₂ (binary (side-sign kind)) (trees-below t n l hl) (trees-below t n r hr)
 
-    pub lift-empty : member ≡ 0 → Interns t n room (join-at t other kind first member) (At other n) t
-    lift-empty e = (
-      grown-none (k .rows),
-      k .space,
-      k .other-within,
-      sym (ap (beside (side-sign kind) (tree-at t other) first) (ap (tree-at t) e ∙ k .rows .literal) ∙ beside-ε (side-sign kind) (tree-at t other) first),
-      λ z m. List·Memᴰ·tail m,
-    )
+  pair-tree : (b : Bool) → row-tree (entry kind (cond b member other) (cond b other member)) (trees t n) ≡ pair (side-sign kind) (tree-at t other) b (tree-at t member)
+  pair-tree true = entry-tree (k .member-within) (k .other-within)
+  pair-tree false = entry-tree (k .other-within) (k .member-within)
 
-    entry-tree : {l r : ℕ} → l < n → r < n → row-tree (entry kind l r) (trees t n) ≡ binary (side-sign kind) (tree-at t l) (tree-at t r)
-    entry-tree {l} {r} hl hr =
-        ap (λ (j : ℕ). row-tree (entry j l r) (trees t n)) (sym (sign-kind kind (k .low) (k .high))) ∙ sign-tree (side-sign kind) l r (trees t n)
-        ∙ ap₂ (binary (side-sign kind)) (trees-below t n l hl) (trees-below t n r hr)
-
-    pair-tree : (b : Bool) → row-tree (entry kind (cond b member other) (cond b other member)) (trees t n) ≡ pair (side-sign kind) (tree-at t other) b (tree-at t member)
-    pair-tree true = entry-tree (k .member-within) (k .other-within)
-    pair-tree false = entry-tree (k .other-within) (k .member-within)
-
-    pub lift-pair : (other ≡ 0 → ⊥) → (member ≡ 0 → ⊥) → (b : Bool) → first ≡ b
-        → row-tree (entry kind (cond b member other) (cond b other member)) (trees t n) ≡ join-at t other kind first member
-    lift-pair d c b e =
-        pair-tree b ∙ ap (λ (f : Bool). pair (side-sign kind) (tree-at t other) f (tree-at t member)) (sym e)
-        ∙ sym
-        (beside-pair (side-sign kind) (tree-at t other) first (tree-at t member) (not-ε (k .rows) (k .other-within) d) (not-ε (k .rows) (k .member-within) c))
+  pub lift-pair : (other ≡ 0 → ⊥) → (member ≡ 0 → ⊥) → (b : Bool) → first ≡ b
+      → row-tree (entry kind (cond b member other) (cond b other member)) (trees t n) ≡ join-at t other kind first member
+  lift-pair d c b e =
+      pair-tree b ∙ ap (λ (f : Bool). pair (side-sign kind) (tree-at t other) f (tree-at t member)) (sym e)
+      ∙ sym
+      (beside-pair (side-sign kind) (tree-at t other) first (tree-at t member) (not-ε (k .rows) (k .other-within) d) (not-ε (k .rows) (k .member-within) c))

@@ -130,8 +130,8 @@ pub fn lift(
     super::rows::intern(kind, left, right, used, room, sign, o, m)
 }
 
-// The member of a pair, a row, where `o` beside it is `other`. A join with the literal empty word is never made, though the given expression
-// may hold one.
+// The member of a pair, as a row, where the tree beside it is `other`. A join with the literal empty word is never made, though the
+// given expression may hold one.
 fn kept(row: usize, o: usize, other: usize) -> Lowered
     ensures { λ r. ⌜ r ≡ choose (eqb o other && not (eqb row 0)) (Lowered.Member row) Lowered.Outside ⌝ }
 {

@@ -1,9 +1,10 @@
 -- `derive::sides::lift` finds or adds the join of a member with the side's other tree.
 use borrow.Author.Needs.{needs}
+use native.Mathlib.Omega.{arith}
 use denote.Ref.{now}
 use mathlib.Core.Bool.{true, false}
 use Rattle.theory.specs.Table.{table}
-use Rattle.derive.proofs.Lifting.{Lifts, first-sound, second-sound, lift-literal, lift-empty, lift-pair}
+use Rattle.derive.proofs.Lifting.{Lifts, joins-sound, lift-literal, lift-empty, lift-pair}
 use Rattle.derive.proofs.sides.lift.Statement.{statement}
 use Rattle.derive.proofs.sides.lift.Tie as tie
 
@@ -33,7 +34,7 @@ cast-o c = search needs
 intern-requires : tie.Need-intern-requires
 intern-requires c κs =
     let s = c .before .before .before .before .before .before .before .before .before in
-    (s .pre .0, ((s .pre .1 .0 .0, s .pre .1 .0 .1), first-sound (lifts s)))
+    (s .pre .0, ((s .pre .1 .0 .0, s .pre .1 .0 .1), joins-sound (s .pre .1 .1 .2) (s .pre .1 .1 .3) (omega arith) (omega arith)))
 
 same-length : tie.Need-same-length
 same-length c = search needs
@@ -52,7 +53,7 @@ returns-3 c =
 intern-requires-2 : tie.Need-intern-requires-2
 intern-requires-2 c κs =
     let s = c .before .before .before .before .before .before .before .before .before in
-    (s .pre .0, ((s .pre .1 .0 .0, s .pre .1 .0 .1), second-sound (lifts s)))
+    (s .pre .0, ((s .pre .1 .0 .0, s .pre .1 .0 .1), joins-sound (s .pre .1 .1 .2) (s .pre .1 .1 .3) (omega arith) (omega arith)))
 
 same-length-4 : tie.Need-same-length-4
 same-length-4 c = search needs
