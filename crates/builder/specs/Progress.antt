@@ -1,60 +1,32 @@
--- How far the automaton of e stands in the lent columns: the meetings so far, in 01's order, and what the columns then hold.
-use Prim.Native.Nat.{ℕ, zero, suc, pred, _+_, _-_, _≤_, _<_}
+-- How far the automaton of e stands in the lent columns: what is met so far, in 01's order, and what the columns then hold.
+use Prim.Native.Nat.{ℕ, _-_, _≤_, _<_}
 use mathlib.Core.Path.{_≡_}
-use mathlib.Core.Bool.{cond}
+use mathlib.Core.Bool.{Bool, false, cond}
 use mathlib.Core.Logic.{_⊎_}
-use mathlib.Core.List.{List, [], _∷_, _++_, map, flatMap, List·Memᴰ}
+use mathlib.Core.List.{List, [], _∷_, _++_, map, List·Memᴰ}
 use lib.ListN.{length, getD, take}
-use Rattle.theory.specs.Expression.{Expression, ∅, same}
-use Rattle.theory.specs.Distinct.{distinct, place, Within}
-use Rattle.theory.specs.Derivative.{derivative, empty-word}
-use Rattle.theory.specs.Automaton.{ascending, states, arcs, expressions}
-use Rattle.theory.specs.Column.{filled}
+use Rattle.theory.specs.Expression.{Expression, same, letters}
+use Rattle.theory.specs.Distinct.{place, Within}
+use Rattle.theory.specs.Derivative.{empty-word}
+use Rattle.theory.specs.Automaton.{states, arcs, expressions}
+use Rattle.theory.specs.Column.{zeros, filled}
 use Rattle.theory.specs.Table.{Table, trees, tree-at}
 use Rattle.theory.specs.Build.{Lent, Names}
+use Rattle.theory.proofs.Meetings.{Meeting, meeting, meetings, before, so-far}
+use Rattle.theory.proofs.Nearing.{Starts}
 use Rattle.derive.specs.Rows.{Rows}
 use Rattle.builder.specs.declared.arcs.Counts.{Counts}
 use Rattle.builder.specs.declared.arcs.Went.{Went}
 use Rattle.builder.specs.declared.arcs.Went.the-variants.{On, NoRoom}
 
--- A member met: from the state of that number, by the letter, that expression.
-pub record Meeting : Type 0 where
-  pub from : ℕ
-  pub letter : ℕ
-  pub target : Expression
-
-abbrev pub meeting : ℕ → ℕ → Expression → Meeting
-meeting i a m = record { from = i; letter = a; target = m }
-
--- What is met from state i, the expression x, by some letters.
-unfoldable pub by-letters : ℕ → Expression → List ℕ → List Meeting
-unfolding flatMap derivative
-by-letters i x as = flatMap (λ a. map (meeting i a) (derivative a x)) as
-
--- What is met from the states xs, numbered from i.
-unfoldable pub by-states : ℕ → List Expression → List Meeting
-unfolding by-letters ascending
-by-states i [] = []
-by-states i (x ∷ xs) = by-letters i x (ascending 1 255) ++ by-states (suc i) xs
-
--- All that is met before state i is left by a letter above a: 01's order of states, letters and members.
-unfoldable pub before : Expression → ℕ → ℕ → List Meeting
-unfolding by-states by-letters states ascending
-before e i a = by-states 0 (take i (states e)) ++ by-letters i (getD (states e) i ∅) (ascending 1 a)
-
--- The states so far: 01, "a new expression gets the next state number".
-unfoldable pub so-far : Expression → List Meeting → List Expression
-unfolding distinct same
-so-far e done = distinct same (e ∷ map (λ (m : Meeting). m .target) done)
-
 -- The columns hold what `done` gives of the automaton of e, and no row that the automaton does not need.
 pub record Progress (e : Expression) (done : List Meeting) (c : Lent) (k : Counts) : Type 0 where
   pub rows : Rows (c .rows) (k .rows)
   pub needed : Within (trees (c .rows) (k .rows)) (expressions e)
-  pub states : k .states ≡ length (so-far e done)
+  pub state-count : k .states ≡ length (so-far e done)
   pub named : Names (c .rows) (k .rows) (c .expression) (so-far e done)
   pub accepting : c .accepting ≡ filled (length (c .accepting)) (map (λ x. cond (empty-word x) 1 0) (so-far e done))
-  pub arcs : k .arcs ≡ length done
+  pub arc-count : k .arcs ≡ length done
   pub from : c .from ≡ filled (length (c .from)) (map (λ (m : Meeting). m .from) done)
   pub letter : c .letter ≡ filled (length (c .letter)) (map (λ (m : Meeting). m .letter) done)
   pub to : c .to ≡ filled (length (c .to)) (map (λ (m : Meeting). place same (m .target) (states e)) done)
@@ -66,6 +38,7 @@ pub record Roomy (c : Lent) (rooms k : Counts) : Type 0 where
   pub states-in : rooms .states ≤ length (c .expression)
   pub accepting-in : rooms .states ≤ length (c .accepting)
   pub states-small : rooms .states ≤ 65535
+  pub arcs-small : rooms .arcs ≤ 16777216
   pub from-in : rooms .arcs ≤ length (c .from)
   pub letter-in : rooms .arcs ≤ length (c .letter)
   pub to-in : rooms .arcs ≤ length (c .to)
@@ -86,3 +59,97 @@ Goes e done rooms NoRoom c = Exceeds e rooms
 -- State 0 is the given expression.
 abbrev pub root : Lent → Expression
 root c = tree-at (c .rows) (getD (c .expression) 0 0)
+
+-- The first of the first n numbers of a column that is x; n where none is.
+pub record FirstEqual (column : List ℕ) (n x i : ℕ) : Type 0 where
+  pub within : i ≤ n
+  pub found : i < n → getD column i 0 ≡ x
+  pub before : (j : ℕ) → j < i → getD column j 0 ≡ x → ⊥
+
+-- ---- Between the functions of the builder
+
+-- What is met so far is where the meetings of the given expression begin, as many as there are arcs.
+abbrev pub met-so-far : Lent → Counts → List Meeting
+met-so-far c k = take (k .arcs) (meetings (root c))
+
+pub record Ready (c : Lent) (rooms k : Counts) : Type 0 where
+  pub progress : Progress (root c) (met-so-far c k) c k
+  pub roomy : Roomy c rooms k
+
+-- The next meeting: from state i by the letter a the tree of a row.
+abbrev pub next-met : Lent → Counts → ℕ → ℕ → ℕ → List Meeting
+next-met c k i a r = met-so-far c k ++ (meeting i a (tree-at (c .rows) r) ∷ [])
+
+pub record Meets (c : Lent) (k : Counts) (i a r : ℕ) : Type 0 where
+  pub state : i < k .states
+  pub row : r < k .rows
+  pub next : Starts (root c) (next-met c k i a r)
+
+-- No row came.
+abbrev pub Kept : ℕ → Went → Type 0
+Kept n (On k) = k .rows ≡ n
+Kept n NoRoom = Unit {0}
+
+pub record Met (c : Lent) (k rooms : Counts) (i a r : ℕ) (w : Went) (c′ : Lent) : Type 0 where
+  pub goes : Goes (root c) (next-met c k i a r) rooms w c′
+  pub kept : Kept (k .rows) w
+
+-- The columns of rows and states before the first state: zero, and as long as the rooms.
+pub record Begins (rooms : Counts) (t : Table) (expression accepting : List ℕ) : Type 0 where
+  pub left-length : length (t .left) ≡ length (t .kind)
+  pub right-length : length (t .right) ≡ length (t .kind)
+  pub kind-zero : t .kind ≡ zeros (length (t .kind))
+  pub left-zero : t .left ≡ zeros (length (t .left))
+  pub right-zero : t .right ≡ zeros (length (t .right))
+  pub expression-zero : expression ≡ zeros (length expression)
+  pub accepting-zero : accepting ≡ zeros (length accepting)
+  pub rows-in : rooms .rows ≤ length (t .kind)
+  pub rows-small : rooms .rows ≤ 65535
+  pub states-in : rooms .states ≤ length expression
+  pub accepting-in : rooms .states ≤ length accepting
+
+-- The given expression stands as state 0.
+pub record Standing (e : Expression) (rooms k : Counts) (t : Table) (expression accepting : List ℕ) : Type 0 where
+  pub rows : Rows t (k .rows)
+  pub needed : Within (trees t (k .rows)) (expressions e)
+  pub rows-fit : k .rows ≤ rooms .rows
+  pub one-state : k .states ≡ 1
+  pub no-arc : k .arcs ≡ 0
+  pub named : Names t (k .rows) expression (e ∷ [])
+  pub flags : accepting ≡ filled (length accepting) (cond (empty-word e) 1 0 ∷ [])
+  pub state-room : 1 ≤ rooms .states
+
+abbrev pub Begun : Expression → Counts → Went → Table → List ℕ → List ℕ → Type 0
+Begun e rooms (On k) t expression accepting = Standing e rooms k t expression accepting
+Begun e rooms NoRoom t expression accepting = Exceeds e rooms
+
+-- State i is left by the letter a: all before that is met.
+pub record Leaves (c : Lent) (k : Counts) (i a : ℕ) : Type 0 where
+  pub state : i < k .states
+  pub low : 1 ≤ a
+  pub high : a ≤ 255
+  pub here : k .arcs ≡ length (before (root c) i (a - 1))
+
+-- State i is left by all letters: all before that is met.
+pub record LeavesAll (c : Lent) (k : Counts) (i : ℕ) : Type 0 where
+  pub state : i < k .states
+  pub here : k .arcs ≡ length (before (root c) i 0)
+
+-- Letters that are not marked are none of e's.
+abbrev pub Knows : List Bool → Expression → Type 0
+Knows used e = (a : ℕ) → a < 256 → getD used a false ≡ false → List·Memᴰ a (letters e) → ⊥
+
+pub record Reaches (e : Expression) (done : List Meeting) (rooms : Counts) (w : Went) (c : Lent) : Type 0 where
+  pub goes : Goes e done rooms w c
+
+-- All lent columns before the first state.
+pub record Blank (rooms : Counts) (c : Lent) : Type 0 where
+  pub begins : Begins rooms (c .rows) (c .expression) (c .accepting)
+  pub states-small : rooms .states ≤ 65535
+  pub arcs-small : rooms .arcs ≤ 16777216
+  pub from-zero : c .from ≡ zeros (length (c .from))
+  pub letter-zero : c .letter ≡ zeros (length (c .letter))
+  pub to-zero : c .to ≡ zeros (length (c .to))
+  pub from-in : rooms .arcs ≤ length (c .from)
+  pub letter-in : rooms .arcs ≤ length (c .letter)
+  pub to-in : rooms .arcs ≤ length (c .to)

@@ -1,5 +1,13 @@
 // One member met: its state, found or added, and the arc to it.
 
+ghost use mathlib.Core.Path.{_≡_};
+ghost use Prim.Native.Nat.{_≤_, _<_};
+ghost use mathlib.Core.Bool.{cond};
+ghost use lib.ListN.{length, set};
+ghost use Rattle.theory.specs.Table.{table};
+ghost use Rattle.theory.specs.Build.{lent};
+ghost use Rattle.builder.specs.Progress.{FirstEqual, Ready, Meets, Met};
+
 pub struct Counts {
     pub rows: usize,
     pub states: usize,
@@ -12,7 +20,10 @@ pub enum Went {
 }
 
 // The first of the states so far whose row is `row`, or their number where there is none.
-fn find(expression: &[u16], states: usize, row: usize) -> usize {
+fn find(expression: &[u16], states: usize, row: usize) -> usize
+    requires { ⌜ states ≤ length (now expression) ⌝ }
+    ensures { λ i. ⌜ FirstEqual (now (expression .entry)) states row i ⌝ }
+{
     let mut i = 0;
     while i < states {
         if (expression[i] as usize) == row {
@@ -23,7 +34,24 @@ fn find(expression: &[u16], states: usize, row: usize) -> usize {
     states
 }
 
-// The member `row` of the derivative of state i by a letter.
+fn store(n: usize, i: u16, a: u8, j: u16, from: &mut [u16], letter: &mut [u8], to: &mut [u16])
+    requires { ⌜ (n < length (now from)) × (n < length (now letter)) × (n < length (now to)) ⌝ }
+    ensures { λ _. ⌜ now (from .exit) ≡ set (now (from .entry)) n i ⌝ }
+    ensures { λ _. ⌜ now (letter .exit) ≡ set (now (letter .entry)) n a ⌝ }
+    ensures { λ _. ⌜ now (to .exit) ≡ set (now (to .entry)) n j ⌝ }
+{
+    from[n] = i;
+    letter[n] = a;
+    to[n] = j;
+}
+
+pub fn flag(yes: bool) -> u8
+    ensures { λ r. ⌜ r ≡ cond yes 1 0 ⌝ }
+{
+    if yes { 1 } else { 0 }
+}
+
+// The member `row` of the derivative of state i by the letter a.
 pub fn meet(
     i: usize,
     a: u8,
@@ -38,33 +66,43 @@ pub fn meet(
     from: &mut [u16],
     letter: &mut [u8],
     to: &mut [u16],
-) -> Went {
+) -> Went
+    requires { ⌜ Ready (lent (table (now xkind) (now xleft) (now xright)) (now expression) (now accepting) (now from) (now letter) (now to)) rooms counts ⌝ }
+    requires { ⌜ Meets (lent (table (now xkind) (now xleft) (now xright)) (now expression) (now accepting) (now from) (now letter) (now to)) counts i a row ⌝ }
+    ensures { λ r.
+        ⌜ Met (lent (table (now (xkind .entry)) (now (xleft .entry)) (now (xright .entry))) (now (expression .entry)) (now (accepting .entry))
+        (now (from .entry)) (now (letter .entry)) (now (to .entry))) counts rooms i a row r
+        (lent (table (now (xkind .entry)) (now (xleft .entry)) (now (xright .entry))) (now (expression .exit)) (now (accepting .exit))
+        (now (from .exit)) (now (letter .exit)) (now (to .exit))) ⌝ }
+{
     let states = counts.states;
     let arcs = counts.arcs;
+    let state_room = rooms.states;
+    let arc_room = rooms.arcs;
     let j = find(expression, states, row);
-    let mut now_states = states;
-    if j == states {
-        if rooms.states <= states {
-            return Went::NoRoom;
-        }
-        expression[states] = row as u16;
-        accepting[states] = if derive::rows::empty_word(xkind, xleft, xright, row) {
-            1
-        } else {
-            0
-        };
-        now_states = states + 1;
-    }
-    if rooms.arcs <= arcs {
+    if arc_room <= arcs {
         return Went::NoRoom;
     }
-    from[arcs] = i as u16;
-    letter[arcs] = a;
-    to[arcs] = j as u16;
+    if j < states {
+        store(arcs, i as u16, a, j as u16, from, letter, to);
+        return Went::On {
+            counts: Counts {
+                rows: counts.rows,
+                states,
+                arcs: arcs + 1,
+            },
+        };
+    }
+    if state_room <= states {
+        return Went::NoRoom;
+    }
+    expression[states] = row as u16;
+    accepting[states] = flag(derive::rows::empty_word(xkind, xleft, xright, row));
+    store(arcs, i as u16, a, states as u16, from, letter, to);
     Went::On {
         counts: Counts {
             rows: counts.rows,
-            states: now_states,
+            states: states + 1,
             arcs: arcs + 1,
         },
     }

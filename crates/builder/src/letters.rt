@@ -1,5 +1,11 @@
 // The letters that a table uses, in ascending order.
 
+ghost use mathlib.Core.Path.{_≡_};
+ghost use mathlib.Core.Bool.{false};
+ghost use Prim.Native.Nat.{ℕ, _≤_, _<_};
+ghost use lib.ListN.{length, getD};
+ghost use Rattle.builder.specs.Letters.{uses, IsNext};
+
 // 256 marks, one for each letter.
 pub struct Letters {
     pub used: [bool; 256],
@@ -11,13 +17,18 @@ pub enum Next {
 }
 
 // The letters of the entries of kind 2.
-pub fn gather(kind: &[u8], left: &[u16]) -> Letters {
+pub fn gather(kind: &[u8], left: &[u16]) -> Letters
+    requires { ⌜ length (now kind) ≤ length (now left) ⌝ }
+    ensures { λ r. ⌜ ((a : ℕ) → a < 256 → getD (r .used) a false ≡ uses (now (kind .entry)) (now (left .entry)) a) ⌝ }
+{
     let mut used = [false; 256];
     let mut i = 0;
     while i < kind.len() {
-        let l = left[i] as usize;
-        if kind[i] == 2 && l < 256 {
-            used[l] = true;
+        if kind[i] == 2 {
+            let l = left[i] as usize;
+            if l < 256 {
+                used[l] = true;
+            }
         }
         i += 1;
     }
@@ -26,7 +37,9 @@ pub fn gather(kind: &[u8], left: &[u16]) -> Letters {
 
 impl Letters {
     // The smallest letter used above `after`.
-    pub fn next(self, after: u8) -> Next {
+    pub fn next(self, after: u8) -> Next
+        ensures { λ r. ⌜ IsNext (λ b. getD (self .used) b false) after r ⌝ }
+    {
         let used = self.used;
         let mut a = (after as usize) + 1;
         while a < 256 {

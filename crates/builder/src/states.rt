@@ -7,6 +7,13 @@ use super::letters::Next;
 use derive::rows::Interned;
 use derive::walk::Place;
 use derive::walk::Stepped;
+ghost use mathlib.Core.Path.{_≡_};
+ghost use Prim.Native.Nat.{_+_, _≤_, _<_};
+ghost use lib.ListN.{length};
+ghost use Rattle.theory.specs.Table.{table, tree, table-refusal};
+ghost use Rattle.theory.specs.Build.{lent};
+ghost use Rattle.theory.proofs.Meetings.{before, meetings};
+ghost use Rattle.builder.specs.Progress.{Ready, Leaves, LeavesAll, Knows, Reaches, Begins, Begun, Blank, root};
 
 // The members of the derivative of state i by the letter a.
 fn members(
@@ -22,12 +29,18 @@ fn members(
     from: &mut [u16],
     letter: &mut [u8],
     to: &mut [u16],
-) -> Went {
+) -> Went
+    requires { ⌜ Ready (lent (table (now xkind) (now xleft) (now xright)) (now expression) (now accepting) (now from) (now letter) (now to)) rooms counts ⌝ }
+    requires { ⌜ Leaves (lent (table (now xkind) (now xleft) (now xright)) (now expression) (now accepting) (now from) (now letter) (now to)) counts i a ⌝ }
+    ensures { λ r. ⌜ Reaches (root (lent (table (now (xkind .entry)) (now (xleft .entry)) (now (xright .entry))) (now (expression .entry)) (now (accepting .entry)) (now (from .entry)) (now (letter .entry)) (now (to .entry)))) (before (root (lent (table (now (xkind .entry)) (now (xleft .entry)) (now (xright .entry))) (now (expression .entry)) (now (accepting .entry)) (now (from .entry)) (now (letter .entry)) (now (to .entry)))) i a) rooms r (lent (table (now (xkind .exit)) (now (xleft .exit)) (now (xright .exit))) (now (expression .exit)) (now (accepting .exit)) (now (from .exit)) (now (letter .exit)) (now (to .exit))) ⌝ }
+{
     let e = expression[i] as usize;
+    let room = rooms.rows;
     let mut place = Place::Start;
     let mut n = counts;
     loop {
-        match derive::walk::step(xkind, xleft, xright, n.rows, rooms.rows, a, e, place) {
+        let rows = n.rows;
+        match derive::walk::step(xkind, xleft, xright, rows, room, a, e, place) {
             Stepped::Found { row, used } => {
                 let grown = Counts {
                     rows: used,
@@ -82,7 +95,12 @@ fn leaving(
     from: &mut [u16],
     letter: &mut [u8],
     to: &mut [u16],
-) -> Went {
+) -> Went
+    requires { ⌜ Ready (lent (table (now xkind) (now xleft) (now xright)) (now expression) (now accepting) (now from) (now letter) (now to)) rooms counts ⌝ }
+    requires { ⌜ LeavesAll (lent (table (now xkind) (now xleft) (now xright)) (now expression) (now accepting) (now from) (now letter) (now to)) counts i ⌝ }
+    requires { ⌜ Knows (letters .used) (root (lent (table (now xkind) (now xleft) (now xright)) (now expression) (now accepting) (now from) (now letter) (now to))) ⌝ }
+    ensures { λ r. ⌜ Reaches (root (lent (table (now (xkind .entry)) (now (xleft .entry)) (now (xright .entry))) (now (expression .entry)) (now (accepting .entry)) (now (from .entry)) (now (letter .entry)) (now (to .entry)))) (before (root (lent (table (now (xkind .entry)) (now (xleft .entry)) (now (xright .entry))) (now (expression .entry)) (now (accepting .entry)) (now (from .entry)) (now (letter .entry)) (now (to .entry)))) (i + 1) 0) rooms r (lent (table (now (xkind .exit)) (now (xleft .exit)) (now (xright .exit))) (now (expression .exit)) (now (accepting .exit)) (now (from .exit)) (now (letter .exit)) (now (to .exit))) ⌝ }
+{
     let mut a: u8 = 0;
     let mut n = counts;
     loop {
@@ -121,12 +139,21 @@ fn start(
     xright: &mut [u16],
     expression: &mut [u16],
     accepting: &mut [u8],
-) -> Went {
-    if rooms.rows == 0 || rooms.states == 0 {
+) -> Went
+    requires { ⌜ (table-refusal (table (now kind) (now left) (now right))) .number ≡ 0 ⌝ }
+    requires { ⌜ Begins rooms (table (now xkind) (now xleft) (now xright)) (now expression) (now accepting) ⌝ }
+    ensures { λ r.
+        ⌜ Begun (tree (table (now (kind .entry)) (now (left .entry)) (now (right .entry)))) rooms r
+        (table (now (xkind .exit)) (now (xleft .exit)) (now (xright .exit))) (now (expression .exit)) (now (accepting .exit)) ⌝ }
+{
+    let room = rooms.rows;
+    if room == 0 {
+        return Went::NoRoom;
+    }
+    if rooms.states == 0 {
         return Went::NoRoom;
     }
     xkind[0] = 1;
-    let room = rooms.rows;
     let root = kind.len() - 1;
     let Interned::At { row, used } = derive::rows::take_over(
         kind,
@@ -142,11 +169,7 @@ fn start(
         return Went::NoRoom;
     };
     expression[0] = row as u16;
-    accepting[0] = if derive::rows::empty_word(xkind, xleft, xright, row) {
-        1
-    } else {
-        0
-    };
+    accepting[0] = super::arcs::flag(derive::rows::empty_word(xkind, xleft, xright, row));
     Went::On {
         counts: Counts {
             rows: used,
@@ -156,6 +179,7 @@ fn start(
     }
 }
 
+// The whole automaton, in columns that are zero before.
 pub fn fill(
     kind: &[u8],
     left: &[u16],
@@ -169,7 +193,11 @@ pub fn fill(
     from: &mut [u16],
     letter: &mut [u8],
     to: &mut [u16],
-) -> Went {
+) -> Went
+    requires { ⌜ (table-refusal (table (now kind) (now left) (now right))) .number ≡ 0 ⌝ }
+    requires { ⌜ Blank rooms (lent (table (now xkind) (now xleft) (now xright)) (now expression) (now accepting) (now from) (now letter) (now to)) ⌝ }
+    ensures { λ r. ⌜ Reaches (tree (table (now (kind .entry)) (now (left .entry)) (now (right .entry)))) (meetings (tree (table (now (kind .entry)) (now (left .entry)) (now (right .entry))))) rooms r (lent (table (now (xkind .exit)) (now (xleft .exit)) (now (xright .exit))) (now (expression .exit)) (now (accepting .exit)) (now (from .exit)) (now (letter .exit)) (now (to .exit))) ⌝ }
+{
     let letters = super::letters::gather(kind, left);
     let Went::On { counts } = start(
         kind,

@@ -23,3 +23,5 @@ pub mod TableRefusal
 pub mod Used
 pub mod WellFormed
 pub mod Examples
+pub mod Accepts
+pub mod Verdicts

@@ -1,0 +1,5 @@
+pub mod Using
+pub mod Adding
+pub mod Meeting
+pub mod Starting
+pub mod Walking

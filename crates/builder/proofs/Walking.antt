@@ -1,0 +1,191 @@
+-- The members of the derivative of a state by a letter, met one by one. Assumes nothing.
+use Prim.Native.Nat.{ℕ, zero, suc, _+_, _-_, _≤_, _<_}
+use native.Mathlib.Nat.{le-refl, lt-of-lt-of-le, le-trans, le-of-eq}
+use native.Mathlib.Omega.{arith}
+use mathlib.Core.Path.{_≡_, refl, sym, ap, ap₂, _∙_, subst}
+use mathlib.Core.Logic.{_⊎_, inl, inr, ⊎-elim}
+use mathlib.Core.Option.{Option, none, some}
+use mathlib.Core.List.{List, [], _∷_, _++_, map, map-append, append-assoc, append-nil, List·Memᴰ, List·Memᴰ·head, Memᴰ·cast, Memᴰ·append-left, Memᴰ·append-right}
+use lib.ListN.{length, getD, take, drop, length-append, take-append-drop, List·getD-append}
+use lib.Seq.{take-append-seam}
+use Rattle.theory.specs.Expression.{Expression, ∅, same, parts}
+use Rattle.theory.specs.Distinct.{distinct, Within}
+use Rattle.theory.specs.Derivative.{derivative}
+use Rattle.theory.specs.Automaton.{states, expressions, successors, alphabet, Derived}
+use Rattle.theory.specs.Table.{Table, trees, tree-at}
+use Rattle.theory.specs.Build.{Lent, lent, Names}
+use Rattle.theory.proofs.Distinct.{no-longer, getD-member}
+use Rattle.theory.proofs.Derivative.{derivative-no-repeats}
+use Rattle.theory.proofs.Accepts.Arcs.{to-alphabet}
+use Rattle.theory.proofs.Members.{to-flatMap}
+use Rattle.theory.proofs.Meetings.{Meeting, meeting, meetings, before, so-far, before-letter}
+use Rattle.theory.proofs.Nearing.{Starts, starts-before, starts-member, states-begin, states-enough, parts-needed}
+use Rattle.theory.proofs.States.{states-derived, derived-states}
+use Rattle.derive.specs.Rows.{Rows, Grown, Needed, Short}
+use Rattle.derive.specs.Walk.{to-come, In-list, Steps, first-of}
+use Rattle.derive.specs.declared.walk.Stepped.the-variants.{Found, End, NoRoom}
+use Rattle.derive.specs.declared.walk.Place.{Place}
+use Rattle.derive.specs.declared.walk.Place.the-variants.{Start, Behind}
+use Rattle.derive.proofs.Growing.{grown-tree}
+use Rattle.derive.proofs.Listing.{first-some, first-none, behind-next, behind-head}
+use Rattle.builder.specs.Progress.{Progress, Roomy, Exceeds, Ready, Meets, Met, Leaves, met-so-far, root}
+use Rattle.builder.specs.declared.arcs.Counts.{Counts}
+use Rattle.builder.proofs.Adding.{starts-less}
+
+-- ---- The given expression, and where the meetings stand
+
+so-far-first : (e : Expression) (done : List Meeting) → (0 < length (so-far e done)) × (getD (so-far e done) 0 ∅ ≡ e)
+unfolding so-far distinct
+so-far-first e done = (omega arith, refl)
+
+-- State 0 is the given expression.
+pub root-is : {e : Expression} {done : List Meeting} {c : Lent} {k : Counts} → Progress e done c k → root c ≡ e
+root-is {e} {done} p = p .named .named 0 (so-far-first e done .0) ∙ so-far-first e done .1
+
+pub starts-take : {e : Expression} {done : List Meeting} → Starts e done → take (length done) (meetings e) ≡ done
+starts-take {done = done} s = ap (take (length done)) (s .goes-on) ∙ take-append-seam done (s .rest)
+
+-- Progress as the functions of the builder hand it on.
+pub to-ready : {e : Expression} {done : List Meeting} {c : Lent} {rooms k : Counts} → Starts e done → Progress e done c k → Roomy c rooms k → Ready c rooms k
+to-ready {e} {done} {c} {rooms} {k} s p o =
+    let r = root-is p in
+    let d : met-so-far c k ≡ done = ap₂ (λ (n : ℕ) x. take n (meetings x)) (p .arc-count) r ∙ starts-take s in
+    record { progress = subst (λ x. Progress x (met-so-far c k) c k) (sym r) (subst (λ ms. Progress e ms c k) (sym d) p); roomy = o }
+
+pub of-ready : {c : Lent} {rooms k : Counts} (done : List Meeting) → Ready c rooms k → Starts (root c) done → k .arcs ≡ length done → Progress (root c) done c k
+of-ready {c} {k = k} done h s q = subst (λ ms. Progress (root c) ms c k) (ap (λ (n : ℕ). take n (meetings (root c))) q ∙ starts-take s) (h .progress)
+
+-- ---- Rows that come
+
+abbrev pub with-rows : Lent → Table → Lent
+with-rows c t = lent t (c .expression) (c .accepting) (c .from) (c .letter) (c .to)
+
+abbrev pub with-count : Counts → ℕ → Counts
+with-count k n = record { rows = n; states = k .states; arcs = k .arcs }
+
+progress-grown : {e : Expression} {done : List Meeting} {c : Lent} {k : Counts} {t : Table} {n : ℕ} → Progress e done c k → Grown (c .rows) (k .rows) t n
+    → Within (trees t n) (expressions e) → Progress e done (with-rows c t) (with-count k n)
+progress-grown {e} {done} {c} {k} {t} {n} p g within =
+    record {
+      rows = g .rows;
+      needed = within;
+      state-count = p .state-count;
+      named =
+        record {
+          within = λ i l. lt-of-lt-of-le (p .named .within i l) (g .more);
+          named = λ i l. grown-tree g (p .named .within i l) ∙ p .named .named i l;
+          blank = p .named .blank };
+      accepting = p .accepting;
+      arc-count = p .arc-count;
+      from = p .from;
+      letter = p .letter;
+      to = p .to }
+
+roomy-grown : {c : Lent} {rooms k : Counts} {t : Table} {n : ℕ} → Roomy c rooms k → Grown (c .rows) (k .rows) t n → n ≤ rooms .rows → length (t .kind) ≡ length (c .rows .kind)
+    → Roomy (with-rows c t) rooms (with-count k n)
+roomy-grown o g fits same-length =
+    record {
+      rows-in = le-trans (o .rows-in) (le-of-eq (sym same-length));
+      rows-small = o .rows-small;
+      states-in = o .states-in;
+      accepting-in = o .accepting-in;
+      states-small = o .states-small;
+      arcs-small = o .arcs-small;
+      from-in = o .from-in;
+      letter-in = o .letter-in;
+      to-in = o .to-in;
+      rows-fit = fits;
+      states-fit = o .states-fit;
+      arcs-fit = o .arcs-fit }
+
+-- ---- On the way along a list
+
+-- State i, the row r, is left by the letter a; the walk stands at `place`, and the members before it are met.
+pub record AtMember (e : Expression) (i a r : ℕ) (rooms : Counts) (place : Place) (c : Lent) (k : Counts) : Type 0 where
+  pub met : List Expression
+  pub rest : List Expression
+  pub split : derivative a (getD (states e) i ∅) ≡ met ++ rest
+  pub progress : Progress e (before e i (a - 1) ++ map (meeting i a) met) c k
+  pub roomy : Roomy c rooms k
+  pub row-in : r < k .rows
+  pub row-is : tree-at (c .rows) r ≡ getD (states e) i ∅
+  pub standing : In-list (c .rows) (k .rows) place (derivative a (tree-at (c .rows) r))
+  pub coming : to-come (c .rows) place (derivative a (tree-at (c .rows) r)) ≡ rest
+  pub state : i < k .states
+  pub within : i < length (states e)
+  pub low : 1 ≤ a
+  pub high : a ≤ 255
+
+pub member-first : {c : Lent} {rooms k : Counts} {i a : ℕ} → Ready c rooms k → Leaves c k i a → AtMember (root c) i a (getD (c .expression) i 0) rooms Start c k
+member-first {c} {rooms} {k} {i} {a} h l =
+    let e = root c in
+    let p₀ = h .progress in
+    let many : i < length (so-far e (met-so-far c k)) = subst (λ (n : ℕ). i < n) (p₀ .state-count) (l .state) in
+    let s₀ : Starts e (met-so-far c k) = record { rest = drop (k .arcs) (meetings e); goes-on = sym (take-append-drop (k .arcs) (meetings e)) } in
+    let b = states-begin s₀ in
+    let within : i < length (states e) = lt-of-lt-of-le many (states-enough s₀) in
+    let s = starts-before e i (a - 1) within (omega (arith, l .high)) in
+    let p = of-ready (before e i (a - 1)) h s (l .here) in
+    let is : tree-at (c .rows) (getD (c .expression) i 0) ≡ getD (states e) i ∅ =
+      p₀ .named .named i many ∙ sym (ap (λ xs. getD xs i ∅) (b .goes-on) ∙ List·getD-append (so-far e (met-so-far c k)) (b .rest) ∅ i many) in
+    record {
+      met = [];
+      rest = derivative a (getD (states e) i ∅);
+      split = refl;
+      progress = subst (λ ms. Progress e ms c k) (sym (append-nil (before e i (a - 1)))) p;
+      roomy = h .roomy;
+      row-in = p₀ .named .within i many;
+      row-is = is;
+      standing = tt;
+      coming = ap (derivative a) is;
+      state = l .state;
+      within = within;
+      low = l .low;
+      high = l .high }
+
+module _ {e : Expression} {i a r : ℕ} {rooms : Counts} {place : Place} {c : Lent} {k : Counts} (m : AtMember e i a r rooms place c k) where
+  letter-is : suc (a - 1) ≡ a
+  letter-is = let l = m .low in omega arith
+
+  -- The list by the row is the list by the state.
+  list-is : derivative a (tree-at (c .rows) r) ≡ derivative a (getD (states e) i ∅)
+  list-is = ap (derivative a) (m .row-is)
+
+  -- A member is a state, so its parts are needed.
+  member-needed : (y : Expression) → List·Memᴰ y (derivative a (getD (states e) i ∅)) → Within (parts y) (expressions e)
+  unfolding successors
+  member-needed y h =
+      let z = getD (states e) i ∅ in
+      parts-needed e y
+      (derived-states
+        (Derived.onward (states-derived e z (getD-member (states e) i ∅ (m .within))) (to-flatMap (λ b. derivative b z) (to-alphabet a (m .low) (m .high)) h)))
+
+  all-needed : (z : Expression) → Needed (c .rows) (k .rows) (derivative a (tree-at (c .rows) r)) z → List·Memᴰ z (expressions e)
+  all-needed z = ⊎-elim (m .progress .needed z) (λ q. member-needed (q .0) (subst (List·Memᴰ (q .0)) list-is (q .1)) z (q .2))
+
+  pub member-short : Short (rooms .rows) (Needed (c .rows) (k .rows) (derivative a (tree-at (c .rows) r))) → Exceeds e rooms
+  member-short s = inl (lt-of-lt-of-le (s .over) (no-longer same (s .all) (expressions e) (s .once) (λ z h. all-needed z (s .each z h))))
+
+  -- A row comes, or stands already, that is the next member.
+  module _ {row n : ℕ} {t : Table} (same-length : length (t .kind) ≡ length (c .rows .kind))
+      (s : Steps (c .rows) (k .rows) (rooms .rows) (derivative a (tree-at (c .rows) r)) place (Found row n) t) where
+    grown : Progress e (before e i (a - 1) ++ map (meeting i a) (m .met)) (with-rows c t) (with-count k n)
+    grown = progress-grown (m .progress) (s .outcome .0) (λ z h. all-needed z (s .outcome .4 z h))
+
+    pub next-of : (ys : List Expression) × (m .rest ≡ tree-at t row ∷ ys)
+    next-of = first-some (m .rest) (ap first-of (sym (m .coming)) ∙ s .outcome .3)
+
+    met-next : derivative a (getD (states e) i ∅) ≡ (m .met ++ (tree-at t row ∷ [])) ++ next-of .0
+    met-next = m .split ∙ ap (λ xs. m .met ++ xs) (next-of .1) ∙ sym (append-assoc (m .met) (tree-at t row ∷ []) (next-of .0))
+
+    starts-next : Starts e ((before e i (a - 1) ++ map (meeting i a) (m .met)) ++ (meeting i a (tree-at t row) ∷ []))
+    starts-next =
+        subst (Starts e)
+        (ap (λ (b : ℕ). before e i (a - 1) ++ map (meeting i b) (m .met ++ (tree-at t row ∷ []))) letter-is
+        ∙ ap (λ xs. before e i (a - 1) ++ xs) (map-append (meeting i a) (m .met) (tree-at t row ∷ []))
+        ∙ sym (append-assoc (before e i (a - 1)) (map (meeting i a) (m .met)) (meeting i a (tree-at t row) ∷ [])))
+        (starts-member e i (a - 1) (m .met ++ (tree-at t row ∷ [])) (next-of .0) (m .within) (omega (arith, letter-is, m .high))
+          (ap (λ (b : ℕ). derivative b (getD (states e) i ∅)) letter-is ∙ met-next))
+
+    pub found-ready : Ready (with-rows c t) rooms (with-count k n)
+    found-ready = to-ready (starts-less _ _ starts-next) grown (roomy-grown (m .roomy) (s .outcome .0) (s .outcome .1) same-length)
