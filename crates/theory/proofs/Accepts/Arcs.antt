@@ -25,7 +25,7 @@ to-ascending first zero a l u = absurd (omega arith)
 to-ascending first (suc n) a l u =
     ⊎-elim (λ e. List·Memᴰ·head (sym e)) (λ m. List·Memᴰ·tail (to-ascending (suc first) n a m (omega arith))) (eq-or-lt-of-le l)
 
-to-alphabet : (a : ℕ) → 1 ≤ a → a ≤ 255 → List·Memᴰ a alphabet
+pub to-alphabet : (a : ℕ) → 1 ≤ a → a ≤ 255 → List·Memᴰ a alphabet
 unfolding alphabet
 to-alphabet a l u = to-ascending 1 255 a l (omega arith)
 
