@@ -1,10 +1,9 @@
 -- The next member of the right side that the left side does not have: members of both are passed over one at a time. Assumes nothing.
 use Prim.Native.Nat.{ℕ, suc, _≤_, _<_}
 use native.Mathlib.Nat.{le-refl}
-use mathlib.Core.Path.{_≡_, refl, sym, ap, ap₂, _∙_, subst}
-use mathlib.Core.Option.{none, some}
+use mathlib.Core.Path.{_≡_, refl, sym, ap, _∙_, subst}
 use mathlib.Core.Logic.{inl}
-use mathlib.Core.List.{List, [], _∷_, List·Memᴰ}
+use mathlib.Core.List.{List, _∷_, List·Memᴰ}
 use lib.ListN.{length}
 use Rattle.theory.specs.Expression.{Expression}
 use Rattle.theory.specs.Distinct.{NoRepeats}
@@ -14,25 +13,30 @@ use Rattle.derive.specs.declared.walk.Place.{Place}
 use Rattle.derive.specs.declared.walk.Place.the-variants.{Start, Behind}
 use Rattle.derive.specs.declared.walk.Stepped.{Stepped}
 use Rattle.derive.specs.declared.walk.Stepped.the-variants.{Found, End, NoRoom}
-use Rattle.derive.specs.Rows.{Rows, Grown, Needed, Short}
+use Rattle.derive.specs.Rows.{Rows, Grown, Needed}
 use Rattle.derive.specs.Sides.{Within-row, side-list}
 use Rattle.derive.specs.Walk.{behind, beyond, first-of, to-come, In-list, Side-among, Outcome, Gives, Steps}
-use Rattle.derive.proofs.Growing.{grown-none, grown-trans, grown-tree}
+use Rattle.derive.proofs.Growing.{grown-none, grown-trans}
 use Rattle.derive.proofs.Listing.{first-none, first-some, first-member, behind-head, behind-next, beyond-nil, beyond-keep, beyond-pass}
-use Rattle.derive.proofs.Needing.{short-more, needed-later, grown-list, grown-side, grown-place}
+use Rattle.derive.proofs.Needing.{short-more, needed-later, grown-list, grown-side}
 use Rattle.derive.proofs.SideStep.{to-come-within}
 use Rattle.derive.proofs.Siding.{side-no-repeats}
 
--- Members of ms from the place p up to the place p′, all of them in xs, have been passed over; rows that came are needed for ms.
-pub record Passed-over (t : Table) (n room : ℕ) (xs ms : List Expression) (p : Place) (t′ : Table) (n′ : ℕ) (p′ : Place) : Type 0 where
+-- Members of the side y from the place p up to the place p′, all of them in the side x, have been passed over; rows that came are needed
+-- for y's list.
+pub record Passed-over (t : Table) (n room a : ℕ) (x y : Side) (p : Place) (t′ : Table) (n′ : ℕ) (p′ : Place) : Type 0 where
+  pub left-within : Within-row n n x
+  pub right-within : Within-row n n y
   pub grown : Grown t n t′ n′
   pub fits : n′ ≤ room
-  pub place : In-list t′ n′ p′ ms
-  pub rest : beyond xs (to-come t′ p′ ms) ≡ beyond xs (to-come t p ms)
-  pub needed : (z : Expression) → List·Memᴰ z (trees t′ n′) → Needed t n ms z
+  pub place : In-list t′ n′ p′ (side-list a t y)
+  pub rest : beyond (side-list a t x) (to-come t′ p′ (side-list a t y)) ≡ beyond (side-list a t x) (to-come t p (side-list a t y))
+  pub needed : (z : Expression) → List·Memᴰ z (trees t′ n′) → Needed t n (side-list a t y) z
 
-pub passed-none : {t : Table} {n room : ℕ} (xs ms : List Expression) (p : Place) → Rows t n → n ≤ room → In-list t n p ms → Passed-over t n room xs ms p t n p
-passed-none xs ms p h space i = record { grown = grown-none h; fits = space; place = i; rest = refl; needed = λ z m. inl m }
+pub passed-none : {t : Table} {n room : ℕ} (a : ℕ) (x y : Side) (p : Place) → Rows t n → n ≤ room → Within-row n n x → Within-row n n y
+    → In-list t n p (side-list a t y) → Passed-over t n room a x y p t n p
+passed-none a x y p h space wx wy i =
+    record { left-within = wx; right-within = wy; grown = grown-none h; fits = space; place = i; rest = refl; needed = λ z m. inl m }
 
 -- One member further in a list without repeats.
 next-to-come : (t t′ : Table) (p : Place) (ms : List Expression) (row : ℕ) (ys : List Expression) → NoRepeats ms → to-come t p ms ≡ tree-at t′ row ∷ ys
@@ -40,106 +44,96 @@ next-to-come : (t t′ : Table) (p : Place) (ms : List Expression) (row : ℕ) (
 next-to-come t t′ Start ms row ys once e = ap (behind (tree-at t′ row)) e ∙ behind-head (tree-at t′ row) ys
 next-to-come t t′ (Behind p) ms row ys once e = behind-next (tree-at t p) (tree-at t′ row) ms ys once e
 
-module _ {t : Table} {n room : ℕ} {xs ms : List Expression} {p : Place} {t′ : Table} {n′ : ℕ} {p′ : Place} (once : NoRepeats ms) (k : Passed-over t n room xs ms p t′ n′ p′) where
-  later : (z : Expression) → Needed t′ n′ ms z → Needed t n ms z
-  later = needed-later t n ms t′ n′ (k .needed)
+module _ {t : Table} {n room a : ℕ} {x y : Side} {p : Place} {t′ : Table} {n′ : ℕ} {p′ : Place} (k : Passed-over t n room a x y p t′ n′ p′) where
+  abbrev xs : List Expression
+  xs = side-list a t x
 
-  module _ {s : Stepped} {t″ : Table} (g : Steps t′ n′ room ms p′ s t″) {row u : ℕ} (e : s ≡ Found row u) where
-    found : Outcome t′ n′ room ms (to-come t′ p′ ms) (Found row u) t″
-    found = subst (λ r. Outcome t′ n′ room ms (to-come t′ p′ ms) r t″) e (g .outcome)
+  abbrev ys : List Expression
+  ys = side-list a t y
 
-    pub found-rows : Rows t″ u
-    found-rows = found .0 .rows
+  pub turn-place : In-list t′ n′ p′ (side-list a t′ y)
+  turn-place = subst (In-list t′ n′ p′) (sym (grown-list (k .grown) a y (k .right-within))) (k .place)
 
-    pub found-grown : Grown t n t″ u
-    found-grown = grown-trans (k .grown) (found .0)
+  pub turn-side : Within-row n′ n′ y
+  turn-side = grown-side (k .grown) y (k .right-within)
 
-    pub found-within : row < u
-    found-within = found .2
+  later : (z : Expression) → Needed t′ n′ ys z → Needed t n ys z
+  later = needed-later t n ys t′ n′ (k .needed)
 
-    came : (ys : List Expression) × (to-come t′ p′ ms ≡ tree-at t″ row ∷ ys)
-    came = first-some (to-come t′ p′ ms) (found .3)
+  -- A step along y's list, as it is once rows have come.
+  module _ {s : Stepped} {t″ : Table} (g : Steps t′ n′ room (side-list a t′ y) p′ s t″) where
+    outcome-then : Outcome t′ n′ room ys (to-come t′ p′ ys) s t″
+    outcome-then = (subst (λ l. Steps t′ n′ room l p′ s t″) (grown-list (k .grown) a y (k .right-within)) g) .outcome
 
-    -- A member that the other list does not have is the next.
-    pub fresh-found : (List·Memᴰ (tree-at t″ row) xs → ⊥) → Gives t n room ms (beyond xs (to-come t p ms)) (Found row u) t″
-    fresh-found d =
-        record {
-          outcome = (
-            found-grown,
-            found .1,
-            found .2,
-            ap first-of (sym (k .rest) ∙ ap (beyond xs) (came .1) ∙ beyond-keep xs (tree-at t″ row) (came .0) d),
-            λ z m. later z (found .4 z m),
-          );
-        }
+    module _ {row u : ℕ} (e : s ≡ Found row u) where
+      found : Outcome t′ n′ room ys (to-come t′ p′ ys) (Found row u) t″
+      found = subst (λ r. Outcome t′ n′ room ys (to-come t′ p′ ys) r t″) e outcome-then
 
-    -- A member that it has is passed over.
-    pub fresh-passed : List·Memᴰ (tree-at t″ row) xs → Passed-over t n room xs ms p t″ u (Behind row)
-    fresh-passed m =
-        record {
-          grown = found-grown;
-          fits = found .1;
-          place = (found .2, to-come-within t′ n′ p′ ms (first-member (to-come t′ p′ ms) (found .3)));
-          rest =
-              ap (beyond xs) (next-to-come t′ t″ p′ ms row (came .0) once (came .1)) ∙ sym (beyond-pass xs (tree-at t″ row) (came .0) m)
-              ∙ sym (ap (beyond xs) (came .1)) ∙ k .rest;
-          needed = λ z i. later z (found .4 z i);
-        }
+      found-grown : Grown t n t″ u
+      found-grown = grown-trans (k .grown) (found .0)
 
-    pub fresh-less : length (to-come t″ (Behind row) ms) < length (to-come t′ p′ ms)
-    fresh-less =
-        subst (λ l. suc (length (to-come t″ (Behind row) ms)) ≤ length l) (sym (came .1))
-        (subst (λ l. suc (length l) ≤ suc (length (came .0))) (sym (next-to-come t′ t″ p′ ms row (came .0) once (came .1))) (le-refl (suc (length (came .0)))))
+      left-then : side-list a t″ x ≡ xs
+      left-then = grown-list found-grown a x (k .left-within)
 
-  -- The right side's list ended, or there was no room.
-  pub fresh-ended : (s : Stepped) → ((row u : ℕ) → s ≡ Found row u → ⊥) → {t″ : Table} → Steps t′ n′ room ms p′ s t″ → Gives t n room ms (beyond xs (to-come t p ms)) s t″
-  fresh-ended (Found row u) d g = absurd (d row u refl)
-  fresh-ended (End u) d g =
-      let o = g .outcome in
+      came : (zs : List Expression) × (to-come t′ p′ ys ≡ tree-at t″ row ∷ zs)
+      came = first-some (to-come t′ p′ ys) (found .3)
+
+      rest-then : to-come t″ (Behind row) ys ≡ came .0
+      rest-then = next-to-come t′ t″ p′ ys row (came .0) (side-no-repeats a t y) (came .1)
+
+      pub turn-asks : Side-among t″ x row
+      turn-asks = (u, found .0 .rows, grown-side found-grown x (k .left-within), found .2)
+
+      -- A member that x does not have is the next.
+      pub turn-found : (List·Memᴰ (tree-at t″ row) (side-list a t″ x) → ⊥) → Gives t n room ys (beyond xs (to-come t p ys)) (Found row u) t″
+      turn-found d =
+          record {
+            outcome = (
+              found-grown,
+              found .1,
+              found .2,
+              ap first-of
+                  (sym (k .rest) ∙ ap (beyond xs) (came .1)
+                  ∙ beyond-keep xs (tree-at t″ row) (came .0) (λ m. d (subst (List·Memᴰ (tree-at t″ row)) (sym left-then) m))),
+              λ z m. later z (found .4 z m),
+            );
+          }
+
+      -- A member that x has is passed over.
+      pub turn-passed : List·Memᴰ (tree-at t″ row) (side-list a t″ x) → Passed-over t n room a x y p t″ u (Behind row)
+      turn-passed m =
+          record {
+            left-within = k .left-within;
+            right-within = k .right-within;
+            grown = found-grown;
+            fits = found .1;
+            place = (found .2, to-come-within t′ n′ p′ ys (first-member (to-come t′ p′ ys) (found .3)));
+            rest =
+                ap (beyond xs) rest-then ∙ sym (beyond-pass xs (tree-at t″ row) (came .0) (subst (List·Memᴰ (tree-at t″ row)) left-then m))
+                ∙ sym (ap (beyond xs) (came .1)) ∙ k .rest;
+            needed = λ z i. later z (found .4 z i);
+          }
+
+      pub turn-less : length (to-come t″ (Behind row) ys) < length (to-come t′ p′ ys)
+      turn-less =
+          subst (λ l. suc (length (to-come t″ (Behind row) ys)) ≤ length l) (sym (came .1))
+          (subst (λ l. suc (length l) ≤ suc (length (came .0))) (sym rest-then) (le-refl (suc (length (came .0)))))
+
+  -- y's list ended, or there was no room.
+  ended : (s : Stepped) {t″ : Table} → ((row u : ℕ) → s ≡ Found row u → ⊥) → Outcome t′ n′ room ys (to-come t′ p′ ys) s t″
+      → Gives t n room ys (beyond xs (to-come t p ys)) s t″
+  ended (Found row u) d o = absurd (d row u refl)
+  ended (End u) d o =
       record {
         outcome = (
           grown-trans (k .grown) (o .0),
           o .1,
-          ap first-of (sym (k .rest) ∙ ap (beyond xs) (first-none (to-come t′ p′ ms) (o .2)) ∙ beyond-nil xs),
+          ap first-of (sym (k .rest) ∙ ap (beyond xs) (first-none (to-come t′ p′ ys) (o .2)) ∙ beyond-nil xs),
           λ z m. later z (o .3 z m),
         );
       }
-  fresh-ended NoRoom d g = record { outcome = short-more later (g .outcome) }
+  ended NoRoom d o = record { outcome = short-more later o }
 
--- ---- A turn of the walk, over the sides as they are once rows have come
-
-module _ (a : ℕ) (x y : Side) {t : Table} {n room : ℕ} (wx : Within-row n n x) (wy : Within-row n n y) {p : Place} {t′ : Table} {n′ : ℕ} {p′ : Place}
-    (k : Passed-over t n room (side-list a t x) (side-list a t y) p t′ n′ p′) where
-  pub turn-place : In-list t′ n′ p′ (side-list a t′ y)
-  turn-place = subst (In-list t′ n′ p′) (sym (grown-list (k .grown) a y wy)) (k .place)
-
-  pub turn-side : Within-row n′ n′ y
-  turn-side = grown-side (k .grown) y wy
-
-  module _ {s : Stepped} {t″ : Table} (g : Steps t′ n′ room (side-list a t′ y) p′ s t″) where
-    then : Steps t′ n′ room (side-list a t y) p′ s t″
-    then = subst (λ ms. Steps t′ n′ room ms p′ s t″) (grown-list (k .grown) a y wy) g
-
-    module _ {row u : ℕ} (e : s ≡ Found row u) where
-      left-then : side-list a t″ x ≡ side-list a t x
-      left-then = grown-list (found-grown (side-no-repeats a t y) k then e) a x wx
-
-      pub turn-asks : Side-among t″ x row
-      turn-asks = (
-        u,
-        found-rows (side-no-repeats a t y) k then e,
-        grown-side (found-grown (side-no-repeats a t y) k then e) x wx,
-        found-within (side-no-repeats a t y) k then e,
-      )
-
-      pub turn-found : (List·Memᴰ (tree-at t″ row) (side-list a t″ x) → ⊥) → Gives t n room (side-list a t y) (beyond (side-list a t x) (to-come t p (side-list a t y))) (Found row u) t″
-      turn-found d = fresh-found (side-no-repeats a t y) k then e (λ m. d (subst (List·Memᴰ (tree-at t″ row)) (sym left-then) m))
-
-      pub turn-passed : List·Memᴰ (tree-at t″ row) (side-list a t″ x) → Passed-over t n room (side-list a t x) (side-list a t y) p t″ u (Behind row)
-      turn-passed m = fresh-passed (side-no-repeats a t y) k then e (subst (List·Memᴰ (tree-at t″ row)) left-then m)
-
-      pub turn-less : length (to-come t″ (Behind row) (side-list a t y)) < length (to-come t′ p′ (side-list a t y))
-      turn-less = fresh-less (side-no-repeats a t y) k then e
-
-    pub turn-ended : ((row u : ℕ) → s ≡ Found row u → ⊥) → Gives t n room (side-list a t y) (beyond (side-list a t x) (to-come t p (side-list a t y))) s t″
-    turn-ended d = fresh-ended (side-no-repeats a t y) k s d then
+  pub turn-ended : {s : Stepped} {t″ : Table} → Steps t′ n′ room (side-list a t′ y) p′ s t″ → ((row u : ℕ) → s ≡ Found row u → ⊥)
+      → Gives t n room ys (beyond xs (to-come t p ys)) s t″
+  turn-ended {s} g d = ended s d (outcome-then g)

@@ -1,10 +1,9 @@
 -- A member joined with the other tree of a side: the three cases, that the join tells the member, and its parts. Assumes nothing.
-use Prim.Native.Nat.{ℕ, suc, _+_}
 use native.Mathlib.Omega.{arith}
-use mathlib.Core.Path.{_≡_, refl, sym, ap, ap₂, _∙_, subst}
+use mathlib.Core.Path.{_≡_, refl, sym, ap, _∙_, subst}
 use mathlib.Core.Bool.{Bool, true, false, cond}
 use mathlib.Core.Logic.{_⊎_, inl, inr}
-use mathlib.Core.List.{List, [], _∷_, _++_, List·Memᴰ, List·Memᴰ·head, List·Memᴰ·eq-of-singleton, Memᴰ·append-left, Memᴰ·append-right}
+use mathlib.Core.List.{_++_, List·Memᴰ, List·Memᴰ·head, List·Memᴰ·eq-of-singleton, Memᴰ·append-left, Memᴰ·append-right}
 use Rattle.theory.specs.Expression.{Expression, same, Sign, ∅, ε, letter, binary, star, parts, entries}
 use Rattle.theory.specs.Derivative.{literal-ε, joined}
 use Rattle.theory.proofs.Derivative.{joined-right, joined-left}

@@ -5,8 +5,8 @@ use mathlib.Core.Path.{_≡_, refl, sym, ap, ap₂, _∙_, subst}
 use mathlib.Core.Bool.{Bool, true, false, cond, not, _&&_}
 use lib.Dec.{eqb}
 use borrow.Author.Tests.{eqb-true, eqb-false, eq-eqb, ne-eqb}
-use Rattle.theory.specs.Expression.{Expression, same, Sign, ∅, ε, letter, binary, star, union, concatenation, shuffle}
-use Rattle.theory.specs.Table.{Table, Row, row, entry, tree-at, trees, row-tree, kind-of-sign, Sound, of-∅, of-ε, of-letter, of-sign, of-star}
+use Rattle.theory.specs.Expression.{Expression, same, Sign, ε, binary}
+use Rattle.theory.specs.Table.{Table, Row, row, entry, tree-at, kind-of-sign, Sound, of-∅, of-ε, of-letter, of-sign, of-star}
 use Rattle.theory.proofs.KindOf.{sound-left, sound-right, tree-sign, tree-∅, tree-ε, tree-letter, tree-star}
 use Rattle.derive.specs.declared.sides.Lowered.{Lowered}
 use Rattle.derive.specs.declared.sides.Lowered.the-variants.{Member, Outside}

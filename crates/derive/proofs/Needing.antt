@@ -1,23 +1,20 @@
--- Rows that came for a step: what is needed for one list is needed for another, and a list and a place in it once rows have come.
+-- Rows that came for a step: what is needed for one list is needed for another, and a side's list once rows have come.
 -- Assumes nothing.
-use Prim.Native.Nat.{ℕ, _≤_, _<_}
+use Prim.Native.Nat.{ℕ}
 use native.Mathlib.Nat.{lt-of-lt-of-le}
-use mathlib.Core.Path.{_≡_, refl, sym, ap, ap₂, _∙_, subst}
+use mathlib.Core.Path.{_≡_, refl, sym, ap, ap₂, _∙_}
 use mathlib.Core.Bool.{Bool}
-use mathlib.Core.Logic.{_⊎_, inl, inr, ⊎-elim}
+use mathlib.Core.Logic.{inl, inr, ⊎-elim}
 use mathlib.Core.List.{List, map, List·Memᴰ, Memᴰ·cast, Memᴰ·map}
-use Rattle.theory.specs.Expression.{Expression, Sign, ε, parts}
+use Rattle.theory.specs.Expression.{Expression, Sign}
 use Rattle.theory.specs.Distinct.{Within}
 use Rattle.theory.specs.Derivative.{derivative}
-use Rattle.theory.specs.Table.{Table, trees, tree-at}
+use Rattle.theory.specs.Table.{Table, trees}
 use Rattle.theory.proofs.Trees.{to-trees}
 use Rattle.derive.specs.declared.sides.Side.{Side}
 use Rattle.derive.specs.declared.sides.Side.the-variants.{Nothing, Of}
-use Rattle.derive.specs.declared.walk.Place.{Place}
-use Rattle.derive.specs.declared.walk.Place.the-variants.{Start, Behind}
 use Rattle.derive.specs.Rows.{Rows, Grown, Needed, Short}
 use Rattle.derive.specs.Sides.{Within-row, side-sign, beside, side-list}
-use Rattle.derive.specs.Walk.{behind, to-come, In-list}
 use Rattle.derive.proofs.Growing.{grown-tree}
 use Rattle.derive.proofs.Joining.{beside-parts}
 
@@ -44,7 +41,7 @@ module _ (t : Table) (n : ℕ) where
       ⊎-elim (λ e. inl (Memᴰ·cast (e ∙ sym (h .literal)) (to-trees t n 0 (h .some)))) (λ k. inr (beside s o f (m .0), Memᴰ·map (beside s o f) (m .1), k))
       (beside-parts s o f (m .0) (m .2))
 
--- ---- Lists and places once rows have come
+-- ---- Lists once rows have come
 
 module _ {t t′ : Table} {n n′ : ℕ} (g : Grown t n t′ n′) where
   pub grown-list : (a : ℕ) (side : Side) → Within-row n n side → side-list a t′ side ≡ side-list a t side
@@ -55,11 +52,3 @@ module _ {t t′ : Table} {n n′ : ℕ} (g : Grown t n t′ n′) where
   pub grown-side : (side : Side) → Within-row n n side → Within-row n′ n′ side
   grown-side Nothing w = tt
   grown-side (Of child other kind first) w = (lt-of-lt-of-le (w .0) (g .more), lt-of-lt-of-le (w .1) (g .more), w .2, w .3)
-
-  pub grown-to-come : (p : Place) (ms : List Expression) → In-list t n p ms → to-come t′ p ms ≡ to-come t p ms
-  grown-to-come Start ms i = refl
-  grown-to-come (Behind p) ms i = ap (λ e. behind e ms) (grown-tree g (i .0))
-
-  pub grown-place : (p : Place) (ms : List Expression) → In-list t n p ms → In-list t′ n′ p ms
-  grown-place Start ms i = tt
-  grown-place (Behind p) ms i = (lt-of-lt-of-le (i .0) (g .more), Memᴰ·cast (grown-tree g (i .0)) (i .1))

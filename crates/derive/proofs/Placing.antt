@@ -1,11 +1,10 @@
 -- Places as the code takes them apart. Assumes nothing.
-use Prim.Native.Nat.{ℕ, _<_}
-use mathlib.Core.Path.{_≡_, refl, sym, ap, _∙_, subst}
-use mathlib.Core.Bool.{Bool, true, false}
+use Prim.Native.Nat.{ℕ}
+use mathlib.Core.Path.{_≡_, sym, ap, _∙_, subst}
+use mathlib.Core.Bool.{Bool}
 use mathlib.Core.List.{List, List·Memᴰ}
 use Rattle.theory.specs.Expression.{Expression}
 use Rattle.theory.specs.Table.{Table, tree-at}
-use Rattle.derive.specs.declared.sides.Side.{Side}
 use Rattle.derive.specs.declared.sides.Lowered.{Lowered}
 use Rattle.derive.specs.declared.walk.Place.{Place}
 use Rattle.derive.specs.declared.walk.Place.the-variants.{Start, Behind}

@@ -1,25 +1,25 @@
 -- A step along a row's list from steps along its two sides. Assumes nothing.
-use Prim.Native.Nat.{ℕ, suc, _≤_, _<_}
+use Prim.Native.Nat.{ℕ, _≤_, _<_}
 use native.Mathlib.Decide.{ℕ-discrete}
 use mathlib.Core.Path.{_≡_, refl, sym, ap, ap₂, _∙_, subst}
 use mathlib.Core.Option.{none, some}
-use mathlib.Core.Logic.{_⊎_, inl, inr, ⊎-elim}
-use mathlib.Core.List.{List, [], _∷_, _++_, List·Memᴰ, List·Memᴰ·not-nil, List·Memᴰ·eq-of-singleton}
+use mathlib.Core.Logic.{inl, ⊎-elim}
+use mathlib.Core.List.{List, [], _++_, List·Memᴰ, List·Memᴰ·not-nil, List·Memᴰ·eq-of-singleton}
 use Rattle.theory.specs.Expression.{Expression, same, ε}
-use Rattle.theory.specs.Distinct.{NoRepeats, Within, distinct}
+use Rattle.theory.specs.Distinct.{Within, distinct}
 use Rattle.theory.specs.Derivative.{derivative}
-use Rattle.theory.specs.Table.{Table, Row, row, trees, tree-at}
+use Rattle.theory.specs.Table.{Table, Row, row, tree-at}
 use Rattle.derive.specs.declared.sides.Side.{Side}
 use Rattle.derive.specs.declared.walk.Place.{Place}
 use Rattle.derive.specs.declared.walk.Place.the-variants.{Start, Behind}
 use Rattle.derive.specs.declared.walk.Stepped.{Stepped}
 use Rattle.derive.specs.declared.walk.Stepped.the-variants.{Found, End, NoRoom}
-use Rattle.derive.specs.Rows.{Rows, Grown, Needed, Short}
+use Rattle.derive.specs.Rows.{Rows, Needed}
 use Rattle.derive.specs.Sides.{Within-row, side-list, left-side, right-side}
-use Rattle.derive.specs.Walk.{behind, beyond, first-of, to-come, In-list, Stands, Side-among, Place-among, Outcome, Gives, Steps}
-use Rattle.derive.proofs.Growing.{grown-none, grown-trans, grown-tree}
+use Rattle.derive.specs.Walk.{behind, beyond, first-of, to-come, In-list, Stands, Place-among, Outcome, Gives, Steps}
+use Rattle.derive.proofs.Growing.{grown-none, grown-trans}
 use Rattle.derive.proofs.Listing.{first-none, first-append, behind-first, behind-second, behind-beyond, behind-head, distinct-beyond}
-use Rattle.derive.proofs.Membership.{left-has, right-has, sides-have, letter-same, letter-other, left-stays, right-stays}
+use Rattle.derive.proofs.Membership.{left-has, right-has, sides-have, letter-same, letter-other, weight, left-falls, left-stays, right-falls, right-stays}
 use Rattle.derive.proofs.Needing.{short-more, needed-within, needed-later, grown-list, grown-side}
 use Rattle.derive.proofs.Siding.{derivative-sides, side-no-repeats}
 
@@ -86,75 +86,102 @@ module _ {t : Table} {n room : ℕ} {ms : List Expression} (xs ys : List Express
 
 -- ---- A row with two sides
 
--- w is row i as the code has read it, x and y are its sides.
-module _ {t : Table} {n i : ℕ} (h : Rows t n) (l : i < n) {w : Row} (e : w ≡ row t i) (a : ℕ) (d : w .kind ≡ 2 → ⊥)
-    {x y : Side} (p : x ≡ left-side t i) (q : y ≡ right-side t i) where
-  abbrev whole : List Expression
-  whole = derivative a (tree-at t i)
+-- Row i of n is no letter, and x and y are its sides.
+pub record Two-sides (t : Table) (n i : ℕ) (x y : Side) : Type 0 where
+  pub rows : Rows t n
+  pub within : i < n
+  pub no-letter : (row t i) .kind ≡ 2 → ⊥
+  pub left : x ≡ left-side t i
+  pub right : y ≡ right-side t i
 
-  abbrev A : List Expression
-  A = side-list a t x
+module _ {t : Table} {n i : ℕ} {x y : Side} (k : Two-sides t n i x y) where
+  pub left-within : Within-row n n x
+  left-within = left-stays (k .rows) (k .within) (k .left)
 
-  abbrev B : List Expression
-  B = side-list a t y
+  pub right-within : Within-row n n y
+  right-within = right-stays (k .rows) (k .within) (k .right)
 
-  two-sides : whole ≡ A ++ beyond A B
-  two-sides =
-      derivative-sides h a l (λ k. d (ap (λ (v : Row). v .kind) e ∙ k))
-      ∙ ap₂ (λ b c. distinct same (side-list a t b ++ side-list a t c)) (sym p) (sym q)
-      ∙ distinct-beyond A B (side-no-repeats a t x) (side-no-repeats a t y)
+  pub left-less : weight x ≤ i
+  left-less = left-falls (k .rows) (k .within) (k .left)
 
-  left-in : Within A whole
-  left-in = left-has h l e a d p
+  pub right-less : weight y ≤ i
+  right-less = right-falls (k .rows) (k .within) (k .right)
 
-  right-in : Within B whole
-  right-in z = right-has h l e a d p q z
+  module _ (a : ℕ) where
+    abbrev whole : List Expression
+    whole = derivative a (tree-at t i)
 
-  -- ---- Places
+    abbrev A : List Expression
+    A = side-list a t x
 
-  pub place-among : (place : Place) → In-list t n place whole → Place-among t x place
-  place-among Start k = tt
-  place-among (Behind m) k = (n, h, left-stays h l p, k .0)
+    abbrev B : List Expression
+    B = side-list a t y
 
-  pub left-place : (place : Place) → In-list t n place whole → Stands t place A → In-list t n place A
-  left-place Start k m = tt
-  left-place (Behind r) k m = (k .0, m)
+    two-sides : whole ≡ A ++ beyond A B
+    two-sides =
+        derivative-sides (k .rows) a (k .within) (k .no-letter)
+        ∙ ap₂ (λ b c. distinct same (side-list a t b ++ side-list a t c)) (sym (k .left)) (sym (k .right))
+        ∙ distinct-beyond A B (side-no-repeats a t x) (side-no-repeats a t y)
 
-  pub right-place : (place : Place) → In-list t n place whole → (Stands t place A → ⊥) → In-list t n place B
-  right-place Start k f = tt
-  right-place (Behind r) k f = (k .0, ⊎-elim (λ m. absurd (f m)) (λ m. m) (sides-have h l e a d p q (tree-at t r) (k .1)))
+    left-in : Within A whole
+    left-in = left-has (k .rows) (k .within) refl a (k .no-letter) (k .left)
 
-  -- ---- Steps
+    right-in : Within B whole
+    right-in z = right-has (k .rows) (k .within) refl a (k .no-letter) (k .left) (k .right) z
 
-  module _ {room : ℕ} (place : Place) where
-    pub step-left : Stands t place A → (s : Stepped) → ((u : ℕ) → s ≡ End u → ⊥) → {t′ : Table} → Steps t n room A place s t′ → Steps t n room whole place s t′
-    step-left = left-found A B two-sides left-in right-in place
+    module _ (place : Place) (j : In-list t n place whole) where
+      pub place-among : Place-among t x place
+      place-among = go place j
+        where
+          go : (p : Place) → In-list t n p whole → Place-among t x p
+          go Start m = tt
+          go (Behind r) m = (n, k .rows, left-within, m .0)
 
-    pub step-right : (Stands t place A → ⊥) → (r : Stepped) {t′ : Table} → Gives t n room B (beyond A (to-come t place B)) r t′ → Steps t n room whole place r t′
-    step-right = right-goes A B two-sides left-in right-in place
+      pub left-place : Stands t place A → In-list t n place A
+      left-place = go place j
+        where
+          go : (p : Place) → In-list t n p whole → Stands t p A → In-list t n p A
+          go Start m s = tt
+          go (Behind r) m s = (m .0, s)
 
-    module _ {s : Stepped} {u : ℕ} {t′ : Table} (g : Steps t n room A place s t′) (o : s ≡ End u) where
-      ended : Outcome t n room A (to-come t place A) (End u) t′
-      ended = subst (λ v. Outcome t n room A (to-come t place A) v t′) o (g .outcome)
+      pub right-place : (Stands t place A → ⊥) → In-list t n place B
+      right-place = go place j
+        where
+          go : (p : Place) → In-list t n p whole → (Stands t p A → ⊥) → In-list t n p B
+          go Start m f = tt
+          go (Behind r) m f =
+              (m .0, ⊎-elim (λ s. absurd (f s)) (λ s. s) (sides-have (k .rows) (k .within) refl a (k .no-letter) (k .left) (k .right) (tree-at t r) (m .1)))
 
-      pub ended-rows : Rows t′ u
-      ended-rows = ended .0 .rows
+    module _ {room : ℕ} (place : Place) where
+      pub step-left : Stands t place A → (s : Stepped) → ((u : ℕ) → s ≡ End u → ⊥) → {t′ : Table} → Steps t n room A place s t′ → Steps t n room whole place s t′
+      step-left = left-found A B two-sides left-in right-in place
 
-      pub ended-fits : u ≤ room
-      ended-fits = ended .1
+      pub step-right : (Stands t place A → ⊥) → (r : Stepped) {t′ : Table} → Gives t n room B (beyond A (to-come t place B)) r t′ → Steps t n room whole place r t′
+      step-right = right-goes A B two-sides left-in right-in place
 
-      pub ended-left : Within-row u u x
-      ended-left = grown-side (ended .0) x (left-stays h l p)
+      -- The left side's list has ended, in the table t′ with u rows.
+      module _ {s : Stepped} {u : ℕ} {t′ : Table} (g : Steps t n room A place s t′) (o : s ≡ End u) where
+        ended : Outcome t n room A (to-come t place A) (End u) t′
+        ended = subst (λ v. Outcome t n room A (to-come t place A) v t′) o (g .outcome)
 
-      pub ended-right : Within-row u u y
-      ended-right = grown-side (ended .0) y (right-stays h l q)
+        pub ended-rows : Rows t′ u
+        ended-rows = ended .0 .rows
 
-      pub step-on : Stands t place A → (r : Stepped) {t″ : Table} → Gives t′ u room (side-list a t′ y) (beyond (side-list a t′ x) (side-list a t′ y)) r t″
-          → Steps t n room whole place r t″
-      step-on m r {t″} f =
-          left-ended A B two-sides left-in right-in place m o g r
-          (subst (λ b. Gives t′ u room b (beyond A b) r t″) (grown-list (ended .0) a y (right-stays h l q))
-          (subst (λ b. Gives t′ u room (side-list a t′ y) (beyond b (side-list a t′ y)) r t″) (grown-list (ended .0) a x (left-stays h l p)) f))
+        pub ended-fits : u ≤ room
+        ended-fits = ended .1
+
+        pub ended-left : Within-row u u x
+        ended-left = grown-side (ended .0) x left-within
+
+        pub ended-right : Within-row u u y
+        ended-right = grown-side (ended .0) y right-within
+
+        pub step-on : Stands t place A → (r : Stepped) {t″ : Table} → Gives t′ u room (side-list a t′ y) (beyond (side-list a t′ x) (side-list a t′ y)) r t″
+            → Steps t n room whole place r t″
+        step-on m r {t″} f =
+            left-ended A B two-sides left-in right-in place m o g r
+            (subst (λ b. Gives t′ u room b (beyond A b) r t″) (grown-list (ended .0) a y right-within)
+            (subst (λ b. Gives t′ u room (side-list a t′ y) (beyond b (side-list a t′ y)) r t″) (grown-list (ended .0) a x left-within) f))
 
 -- ---- A letter's row
 

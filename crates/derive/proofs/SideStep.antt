@@ -1,14 +1,13 @@
 -- A step along a side's list, from a step along its child's. Assumes nothing.
-use Prim.Native.Nat.{ℕ, suc, _≤_, _<_}
+use Prim.Native.Nat.{ℕ, _≤_, _<_}
 use native.Mathlib.Omega.{arith}
-use native.Mathlib.Nat.{le-refl, lt-of-lt-of-le}
-use mathlib.Core.Path.{_≡_, refl, sym, ap, ap₂, _∙_, subst}
+use native.Mathlib.Nat.{lt-of-lt-of-le}
+use mathlib.Core.Path.{_≡_, refl, sym, ap, _∙_, subst}
 use mathlib.Core.Bool.{Bool}
 use mathlib.Core.Option.{none, some}
-use mathlib.Core.Logic.{_⊎_, inl, inr, ⊎-elim}
-use mathlib.Core.List.{List, [], _∷_, map, List·Memᴰ, List·Memᴰ·head, List·Memᴰ·cases-cons, Memᴰ·cast, Memᴰ·map, Memᴰ·of-map}
-use lib.ListN.{length}
-use Rattle.theory.specs.Expression.{Expression, Sign, parts}
+use mathlib.Core.Logic.{inl, inr, ⊎-elim}
+use mathlib.Core.List.{List, [], _∷_, map, List·Memᴰ, List·Memᴰ·cases-cons, Memᴰ·cast, Memᴰ·of-map}
+use Rattle.theory.specs.Expression.{Expression}
 use Rattle.theory.specs.Derivative.{derivative}
 use Rattle.theory.specs.Table.{Table, trees, tree-at}
 use Rattle.theory.proofs.Trees.{trees-length}
@@ -22,11 +21,12 @@ use Rattle.derive.specs.declared.walk.Place.{Place}
 use Rattle.derive.specs.declared.walk.Place.the-variants.{Start, Behind}
 use Rattle.derive.specs.declared.walk.Stepped.{Stepped}
 use Rattle.derive.specs.declared.walk.Stepped.the-variants.{Found, End, NoRoom}
-use Rattle.derive.specs.Rows.{Rows, Grown, Needed, Short, Interns}
+use Rattle.derive.specs.Rows.{Rows, Needed, Interns}
 use Rattle.derive.specs.Sides.{Within-row, side-sign, beside, side-list, lowered}
 use Rattle.derive.specs.Walk.{behind, first-of, to-come, In-list, behind-lowered, lowered-place, Outcome, Gives, Steps}
 use Rattle.derive.proofs.Growing.{grown-none, grown-trans, grown-tree}
 use Rattle.derive.proofs.Joining.{beside-tells, whole-part}
+use Rattle.derive.proofs.Lifting.{Lifts}
 use Rattle.derive.proofs.Listing.{first-none, first-member, first-map, behind-map, behind-within}
 use Rattle.derive.proofs.Lowering.{Lowers, lowers}
 use Rattle.derive.proofs.Needing.{short-more, needed-joined}
@@ -57,8 +57,15 @@ pub to-come-within : (t : Table) (n : ℕ) (p : Place) (ms : List Expression) {z
 to-come-within t n Start ms m = m
 to-come-within t n (Behind p) ms m = behind-within (tree-at t p) ms _ m
 
-module _ {t : Table} {n : ℕ} (h : Rows t n) {side : Side} {child other kind : ℕ} {first : Bool} (e : side ≡ Of child other kind first) (w : Within-row n n side)
-    (a : ℕ) (place : Place) (i : In-list t n place (side-list a t side)) {inner : Place} (q : inner ≡ lowered-place t other kind first place) where
+-- A place in a side's list and the place in its child's list that the code has found for it.
+pub record Inner (t : Table) (n a : ℕ) (side : Side) (child other kind : ℕ) (first : Bool) (place inner : Place) : Type 0 where
+  pub rows : Rows t n
+  pub is : side ≡ Of child other kind first
+  pub within : Within-row n n side
+  pub place-in : In-list t n place (side-list a t side)
+  pub lowered : inner ≡ lowered-place t other kind first place
+
+module _ {t : Table} {n a : ℕ} {side : Side} {child other kind : ℕ} {first : Bool} {place inner : Place} (k : Inner t n a side child other kind first place inner) where
   abbrev ms : List Expression
   ms = derivative a (tree-at t child)
 
@@ -66,12 +73,12 @@ module _ {t : Table} {n : ℕ} (h : Rows t n) {side : Side} {child other kind : 
   joined-with = beside (side-sign kind) (tree-at t other) first
 
   w′ : Within-row n n (Of child other kind first)
-  w′ = subst (Within-row n n) e w
+  w′ = subst (Within-row n n) (k .is) (k .within)
 
-  well : Lowered-well h first w′ ms place inner
+  well : Lowered-well (k .rows) first w′ ms place inner
   well =
-      subst (Lowered-well h first w′ ms place) (sym q)
-      (place-well h first w′ ms place (subst (λ s. In-list t n place (side-list a t s)) e i))
+      subst (Lowered-well (k .rows) first w′ ms place) (sym (k .lowered))
+      (place-well (k .rows) first w′ ms place (subst (λ s. In-list t n place (side-list a t s)) (k .is) (k .place-in)))
 
   pub child-within : child < n
   child-within = w′ .0
@@ -82,12 +89,12 @@ module _ {t : Table} {n : ℕ} (h : Rows t n) {side : Side} {child other kind : 
 
   inner-to-come : to-come t place (side-list a t side) ≡ map joined-with (to-come t inner ms)
   unfolding Lowered-well
-  inner-to-come = ap (λ s. to-come t place (side-list a t s)) e ∙ well .1
+  inner-to-come = ap (λ s. to-come t place (side-list a t s)) (k .is) ∙ well .1
 
   -- What is needed for the child's list is needed for the side's.
   needed-side : (z : Expression) → Needed t n ms z → Needed t n (side-list a t side) z
-  needed-side z k =
-      subst (λ s. Needed t n (side-list a t s) z) (sym e) (needed-joined t n h (side-sign kind) (tree-at t other) first ms z k)
+  needed-side z m =
+      subst (λ s. Needed t n (side-list a t s) z) (sym (k .is)) (needed-joined t n (k .rows) (side-sign kind) (tree-at t other) first ms z m)
 
   module _ {room : ℕ} {t₁ : Table} where
     -- The child's step found a member.
@@ -95,23 +102,16 @@ module _ {t : Table} {n : ℕ} (h : Rows t n) {side : Side} {child other kind : 
       found : Outcome t n room ms (to-come t inner ms) (Found row u) t₁
       found = subst (λ r. Outcome t n room ms (to-come t inner ms) r t₁) es (g .outcome)
 
-      pub lift-rows : Rows t₁ u
-      lift-rows = found .0 .rows
-
-      pub lift-fits : u ≤ room
-      lift-fits = found .1
-
-      pub lift-other : other < u
-      lift-other = lt-of-lt-of-le (w′ .1) (found .0 .more)
-
-      pub lift-member : row < u
-      lift-member = found .2
-
-      pub lift-kind : (4 ≤ kind) × (kind ≤ 5)
-      lift-kind = (w′ .2, w′ .3)
-
-      member : Expression
-      member = tree-at t₁ row
+      pub lift-asks : Lifts t₁ u room other row kind
+      lift-asks =
+          record {
+            rows = found .0 .rows;
+            space = found .1;
+            other-within = lt-of-lt-of-le (w′ .1) (found .0 .more);
+            member-within = found .2;
+            low = w′ .2;
+            high = w′ .3;
+          }
 
       lifted : Expression
       lifted = beside (side-sign kind) (tree-at t₁ other) first (tree-at t₁ row)

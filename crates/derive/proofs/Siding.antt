@@ -4,10 +4,10 @@ use native.Mathlib.Omega.{arith}
 use mathlib.Core.Path.{_≡_, refl, sym, ap, ap₂, _∙_, subst}
 use mathlib.Core.Bool.{Bool, true, false, cond}
 use mathlib.Core.Logic.{_⊎_, inl, inr}
-use mathlib.Core.List.{List, [], _∷_, _++_, map, append-nil}
+use mathlib.Core.List.{[], _++_, map, append-nil}
 use lib.Dec.{eqb}
 use borrow.Author.Tests.{ne-eqb}
-use Rattle.theory.specs.Expression.{Expression, same, Sign, ∅, ε, letter, binary, star, union, concatenation, shuffle}
+use Rattle.theory.specs.Expression.{Expression, same, Sign, binary, union, concatenation, shuffle}
 use Rattle.theory.specs.Distinct.{distinct, NoRepeats}
 use Rattle.theory.specs.Derivative.{joined, derivative, empty-word}
 use Rattle.theory.specs.Table.{Table, Row, row, tree-at, kind-of-sign}

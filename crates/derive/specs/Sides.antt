@@ -1,7 +1,6 @@
 -- The list of a derivative from its two sides: the left part's list and the right part's, each member joined with one other tree.
 use Prim.Native.Nat.{ℕ, _≤_, _<_}
-use mathlib.Core.Path.{_≡_}
-use mathlib.Core.Bool.{Bool, true, false, cond, not, _||_, _&&_}
+use mathlib.Core.Bool.{Bool, true, false, cond, not, _&&_}
 use mathlib.Core.List.{List, [], map}
 use lib.Dec.{eqb}
 use Rattle.theory.specs.Expression.{Expression, Sign, concatenation, shuffle}

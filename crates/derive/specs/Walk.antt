@@ -7,6 +7,7 @@ use mathlib.Core.List.{List, [], _∷_, List·Memᴰ}
 use lib.ListN.{length}
 use Rattle.theory.specs.Expression.{Expression, same}
 use Rattle.theory.specs.Distinct.{without}
+use Rattle.theory.specs.Derivative.{derivative}
 use Rattle.theory.specs.Table.{Table, trees, tree-at}
 use Rattle.derive.specs.declared.sides.Side.{Side}
 use Rattle.derive.specs.declared.sides.Lowered.{Lowered}
@@ -15,8 +16,8 @@ use Rattle.derive.specs.declared.walk.Place.{Place}
 use Rattle.derive.specs.declared.walk.Place.the-variants.{Start, Behind}
 use Rattle.derive.specs.declared.walk.Stepped.{Stepped}
 use Rattle.derive.specs.declared.walk.Stepped.the-variants.{Found, End, NoRoom}
-use Rattle.derive.specs.Rows.{Rows, Grown, Needed, Short}
-use Rattle.derive.specs.Sides.{lowered, Within-row}
+use Rattle.derive.specs.Rows.{Rows, Tells, Grown, Needed, Short}
+use Rattle.derive.specs.Sides.{side-list, lowered, Within-row}
 
 -- xs where the question is answered yes, else ys
 abbrev pub if-yes : {A P : Type 0} → Dec P → A → A → A
@@ -48,7 +49,7 @@ abbrev pub In-list : Table → ℕ → Place → List Expression → Type 0
 In-list t n Start ms = Unit {0}
 In-list t n (Behind p) ms = (p < n) × List·Memᴰ (tree-at t p) ms
 
--- Whether the walk of the list ms goes on from a place: its start, or one of its members.
+-- The walk of the list ms goes on from a place: its start, or one of its members.
 abbrev pub Stands : Table → Place → List Expression → Type 0
 Stands t Start ms = Unit {0}
 Stands t (Behind p) ms = List·Memᴰ (tree-at t p) ms
@@ -93,3 +94,33 @@ pub record Gives (t : Table) (n room : ℕ) (ms xs : List Expression) (r : Stepp
 -- A step along the list ms from a place in it.
 abbrev pub Steps : Table → ℕ → ℕ → List Expression → Place → Stepped → Table → Type 0
 Steps t n room ms p = Gives t n room ms (to-come t p ms)
+
+-- ---- The same over the rows of a table
+
+-- Whether row m's tree is a member of row i's list, or of a side's.
+abbrev pub Row-has : Table → ℕ → ℕ → ℕ → Bool → Type 0
+Row-has t a i m r = Tells r (List·Memᴰ (tree-at t m) (derivative a (tree-at t i)))
+
+abbrev pub Side-has : Table → ℕ → Side → ℕ → Bool → Type 0
+Side-has t a side m r = Tells r (List·Memᴰ (tree-at t m) (side-list a t side))
+
+-- Whether the walk of a side's list goes on from a place.
+abbrev pub Side-stands : Table → ℕ → Side → Place → Bool → Type 0
+Side-stands t a side p r = Tells r (Stands t p (side-list a t side))
+
+-- A place in row i's list, or in a side's.
+abbrev pub Row-place : Table → ℕ → ℕ → ℕ → Place → Type 0
+Row-place t n a i p = In-list t n p (derivative a (tree-at t i))
+
+abbrev pub Side-place : Table → ℕ → ℕ → Side → Place → Type 0
+Side-place t n a side p = In-list t n p (side-list a t side)
+
+-- A step along row i's list, along a side's, and along what the side y has beyond the side x.
+abbrev pub Row-steps : Table → ℕ → ℕ → ℕ → ℕ → Place → Stepped → Table → Type 0
+Row-steps t n room a i p = Steps t n room (derivative a (tree-at t i)) p
+
+abbrev pub Side-steps : Table → ℕ → ℕ → ℕ → Side → Place → Stepped → Table → Type 0
+Side-steps t n room a side p = Steps t n room (side-list a t side) p
+
+abbrev pub Fresh-steps : Table → ℕ → ℕ → ℕ → Side → Side → Place → Stepped → Table → Type 0
+Fresh-steps t n room a x y p = Gives t n room (side-list a t y) (beyond (side-list a t x) (to-come t p (side-list a t y)))

@@ -122,42 +122,26 @@ pub fn lift(
     if member == 0 {
         return super::rows::Interned::At { row: other, used };
     }
+    let m = member as u16;
+    let o = other as u16;
     if first {
-        return super::rows::intern(
-            kind,
-            left,
-            right,
-            used,
-            room,
-            sign,
-            member as u16,
-            other as u16,
-        );
+        return super::rows::intern(kind, left, right, used, room, sign, m, o);
     }
-    super::rows::intern(
-        kind,
-        left,
-        right,
-        used,
-        room,
-        sign,
-        other as u16,
-        member as u16,
-    )
+    super::rows::intern(kind, left, right, used, room, sign, o, m)
 }
 
-// The member of a pair with `o`, where that is `other`. A join with the literal empty word is never made, though the given expression
-// may hold one.
-fn kept(member: usize, o: usize, other: usize) -> Lowered
-    ensures { λ r. ⌜ r ≡ choose (eqb o other && not (eqb member 0)) (Lowered.Member member) Lowered.Outside ⌝ }
+// The member of a pair, as a row, where the tree beside it is `other`. A join with the literal empty word is never made, though the
+// given expression may hold one.
+fn kept(row: usize, o: usize, other: usize) -> Lowered
+    ensures { λ r. ⌜ r ≡ choose (eqb o other && not (eqb row 0)) (Lowered.Member row) Lowered.Outside ⌝ }
 {
     if o != other {
         return Lowered::Outside;
     }
-    if member == 0 {
+    if row == 0 {
         return Lowered::Outside;
     }
-    Lowered::Member { row: member }
+    Lowered::Member { row }
 }
 
 // The member whose join with `other` is the row p.

@@ -1,14 +1,13 @@
 // The walk along a derivative's list: whether a tree is a member, and the member behind a given one.
 
 ghost use mathlib.Core.Path.{_≡_};
-ghost use mathlib.Core.List.{List·Memᴰ};
 ghost use Prim.Native.Nat.{_≤_, _<_};
 ghost use lib.ListN.{length};
-ghost use Rattle.theory.specs.Derivative.{derivative};
-ghost use Rattle.theory.specs.Table.{table, tree-at};
-ghost use Rattle.derive.specs.Rows.{Rows, Tells};
-ghost use Rattle.derive.specs.Sides.{Within-row, side-list};
-ghost use Rattle.derive.specs.Walk.{Row-among, Side-among, Place-among, Place-within, Stands, In-list, lowered-place, to-come, beyond, Gives, Steps};
+ghost use Rattle.theory.specs.Table.{table};
+ghost use Rattle.derive.specs.Rows.{Rows};
+ghost use Rattle.derive.specs.Sides.{Within-row};
+ghost use Rattle.derive.specs.Walk.{Row-among, Side-among, Place-among, Place-within, lowered-place};
+ghost use Rattle.derive.specs.Walk.{Row-has, Side-has, Side-stands, Row-place, Side-place, Row-steps, Side-steps, Fresh-steps};
 use super::rows::Interned;
 use super::sides::Lowered;
 use super::sides::Side;
@@ -25,9 +24,11 @@ pub enum Stepped {
     NoRoom,
 }
 
+// Whether the row `member` is in the list of `row` by the letter: a letter's list is the literal empty word, any other row's is what its
+// two sides have.
 pub fn has(kind: &[u8], left: &[u16], right: &[u16], letter: u8, row: usize, member: usize) -> bool
     requires { ⌜ Row-among (table (now kind) (now left) (now right)) row member ⌝ }
-    ensures { λ r. ⌜ Tells r (List·Memᴰ (tree-at (table (now (kind .entry)) (now (left .entry)) (now (right .entry))) member) (derivative letter (tree-at (table (now (kind .entry)) (now (left .entry)) (now (right .entry))) row))) ⌝ }
+    ensures { λ r. ⌜ Row-has (table (now (kind .entry)) (now (left .entry)) (now (right .entry))) letter row member r ⌝ }
 {
     let w = columns::row_at(kind, left, right, row);
     if w.kind == 2 {
@@ -41,9 +42,10 @@ pub fn has(kind: &[u8], left: &[u16], right: &[u16], letter: u8, row: usize, mem
     side_has(kind, left, right, letter, b, member)
 }
 
+// A side's list is its child's, each member joined with the side's other tree.
 fn side_has(kind: &[u8], left: &[u16], right: &[u16], letter: u8, side: Side, member: usize) -> bool
     requires { ⌜ Side-among (table (now kind) (now left) (now right)) side member ⌝ }
-    ensures { λ r. ⌜ Tells r (List·Memᴰ (tree-at (table (now (kind .entry)) (now (left .entry)) (now (right .entry))) member) (side-list letter (table (now (kind .entry)) (now (left .entry)) (now (right .entry))) side)) ⌝ }
+    ensures { λ r. ⌜ Side-has (table (now (kind .entry)) (now (left .entry)) (now (right .entry))) letter side member r ⌝ }
 {
     let Side::Of {
         child,
@@ -61,6 +63,7 @@ fn side_has(kind: &[u8], left: &[u16], right: &[u16], letter: u8, side: Side, me
     has(kind, left, right, letter, child, row)
 }
 
+// The next member of the list of `row` by the letter: the left side's list, then what the right side has beyond it.
 pub fn step(
     kind: &mut [u8],
     left: &mut [u16],
@@ -73,9 +76,10 @@ pub fn step(
 ) -> Stepped
     requires { ⌜ Rows (table (now kind) (now left) (now right)) used ⌝ }
     requires { ⌜ (used ≤ room) × (room ≤ length (now kind)) × (room ≤ 65535) × (row < used) ⌝ }
-    requires { ⌜ In-list (table (now kind) (now left) (now right)) used place (derivative letter (tree-at (table (now kind) (now left) (now right)) row)) ⌝ }
+    requires { ⌜ Row-place (table (now kind) (now left) (now right)) used letter row place ⌝ }
     ensures { λ r.
-        ⌜ Steps (table (now (kind .entry)) (now (left .entry)) (now (right .entry))) used room (derivative letter (tree-at (table (now (kind .entry)) (now (left .entry)) (now (right .entry))) row)) place r (table (now (kind .exit)) (now (left .exit)) (now (right .exit))) ⌝ }
+        ⌜ Row-steps (table (now (kind .entry)) (now (left .entry)) (now (right .entry))) used room letter row place r
+        (table (now (kind .exit)) (now (left .exit)) (now (right .exit))) ⌝ }
 {
     let w = columns::row_at(kind, left, right, row);
     if w.kind == 2 {
@@ -112,7 +116,7 @@ pub fn step(
 // The start of the list and each member of the left side are walked there.
 fn place_has(kind: &[u8], left: &[u16], right: &[u16], letter: u8, side: Side, place: Place) -> bool
     requires { ⌜ Place-among (table (now kind) (now left) (now right)) side place ⌝ }
-    ensures { λ r. ⌜ Tells r (Stands (table (now (kind .entry)) (now (left .entry)) (now (right .entry))) place (side-list letter (table (now (kind .entry)) (now (left .entry)) (now (right .entry))) side)) ⌝ }
+    ensures { λ r. ⌜ Side-stands (table (now (kind .entry)) (now (left .entry)) (now (right .entry))) letter side place r ⌝ }
 {
     let Place::Behind { row } = place else {
         return true;
@@ -120,6 +124,7 @@ fn place_has(kind: &[u8], left: &[u16], right: &[u16], letter: u8, side: Side, p
     side_has(kind, left, right, letter, side, row)
 }
 
+// The child's next member, joined.
 fn side_step(
     kind: &mut [u8],
     left: &mut [u16],
@@ -132,8 +137,10 @@ fn side_step(
 ) -> Stepped
     requires { ⌜ Rows (table (now kind) (now left) (now right)) used ⌝ }
     requires { ⌜ (used ≤ room) × (room ≤ length (now kind)) × (room ≤ 65535) × Within-row used used side ⌝ }
-    requires { ⌜ In-list (table (now kind) (now left) (now right)) used place (side-list letter (table (now kind) (now left) (now right)) side) ⌝ }
-    ensures { λ r. ⌜ Steps (table (now (kind .entry)) (now (left .entry)) (now (right .entry))) used room (side-list letter (table (now (kind .entry)) (now (left .entry)) (now (right .entry))) side) place r (table (now (kind .exit)) (now (left .exit)) (now (right .exit))) ⌝ }
+    requires { ⌜ Side-place (table (now kind) (now left) (now right)) used letter side place ⌝ }
+    ensures { λ r.
+        ⌜ Side-steps (table (now (kind .entry)) (now (left .entry)) (now (right .entry))) used room letter side place r
+        (table (now (kind .exit)) (now (left .exit)) (now (right .exit))) ⌝ }
 {
     let Side::Of {
         child,
@@ -156,6 +163,7 @@ fn side_step(
     }
 }
 
+// The place in the child's list that the join takes to `place`.
 fn lower_place(
     kind: &[u8],
     left: &[u16],
@@ -192,10 +200,9 @@ fn fresh_step(
 ) -> Stepped
     requires { ⌜ Rows (table (now kind) (now left) (now right)) used ⌝ }
     requires { ⌜ (used ≤ room) × (room ≤ length (now kind)) × (room ≤ 65535) × Within-row used used a × Within-row used used b ⌝ }
-    requires { ⌜ In-list (table (now kind) (now left) (now right)) used place (side-list letter (table (now kind) (now left) (now right)) b) ⌝ }
+    requires { ⌜ Side-place (table (now kind) (now left) (now right)) used letter b place ⌝ }
     ensures { λ r.
-        ⌜ Gives (table (now (kind .entry)) (now (left .entry)) (now (right .entry))) used room (side-list letter (table (now (kind .entry)) (now (left .entry)) (now (right .entry))) b)
-        (beyond (side-list letter (table (now (kind .entry)) (now (left .entry)) (now (right .entry))) a) (to-come (table (now (kind .entry)) (now (left .entry)) (now (right .entry))) place (side-list letter (table (now (kind .entry)) (now (left .entry)) (now (right .entry))) b))) r
+        ⌜ Fresh-steps (table (now (kind .entry)) (now (left .entry)) (now (right .entry))) used room letter a b place r
         (table (now (kind .exit)) (now (left .exit)) (now (right .exit))) ⌝ }
 {
     let mut at = place;

@@ -9,11 +9,11 @@ returns c = sym (simp (ne-eqb (c .before .args .o) (c .before .args .other) (c .
 
 returns-2 : tie.Need-returns-2
 returns-2 c =
-    sym (simp (eq-eqb (c .before .before .args .o) (c .before .before .args .other) (c .before .if1 .left), eq-eqb (c .before .before .args .member) 0 (c .if2 .taken)))
+    sym (simp (eq-eqb (c .before .before .args .o) (c .before .before .args .other) (c .before .if1 .left), eq-eqb (c .before .before .args .row) 0 (c .if2 .taken)))
 
 returns-3 : tie.Need-returns-3
 returns-3 c =
-    sym (simp (eq-eqb (c .before .before .args .o) (c .before .before .args .other) (c .before .if1 .left), ne-eqb (c .before .before .args .member) 0 (c .if2 .left)))
+    sym (simp (eq-eqb (c .before .before .args .o) (c .before .before .args .other) (c .before .if1 .left), ne-eqb (c .before .before .args .row) 0 (c .if2 .left)))
 
 pub kept-spec : {M : Type 1} → statement M
 kept-spec = tie.close (tie.spec returns returns-2 returns-3)
