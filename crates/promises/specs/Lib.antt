@@ -1,0 +1,4 @@
+pub mod Reader
+pub mod Table
+pub mod Builder
+pub mod Matcher
