@@ -137,3 +137,9 @@ module _ (h : Handed) (now next : ℕ) where
   matcher-due (short v n l) = due (even-passes v) (sound n) (or-of _ _ (⊎-elim (λ a. inl (lt-ltb _ _ a)) (λ b. inr (lt-ltb _ _ b)) l))
   matcher-due (none v n l m) =
       due {few = false} (even-passes v) (sound n) (rw (le-ltb now (words (h .states)) l, le-ltb next (words (h .states)) m))
+
+  pub matcher-numbered : {r : Refusal} → MatcherCause h now next r → r .number ≤ 11
+  matcher-numbered (differ n) = omega arith
+  matcher-numbered (malformed v m) = omega arith
+  matcher-numbered (short v n l) = omega arith
+  matcher-numbered (none v n l m) = omega arith

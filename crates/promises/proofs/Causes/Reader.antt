@@ -1,5 +1,6 @@
 -- The reader's refusals have their causes. Leans on `Grammar`: what a text that is read makes, and on `Due`: one reading is due.
 use Prim.Native.Nat.{ℕ, _≤_}
+use native.Mathlib.Omega.{arith}
 use mathlib.Core.Path.{_≡_, refl, sym, ap, _∙_}
 use mathlib.Core.List.{[], append-nil}
 use Rattle.theory.specs.Expression.{entries}
@@ -45,3 +46,12 @@ module _ {text : Text} {t : Table} where
 
   pub reader-due : {q : Reading} {r : Refusal} → Due text t q → ReaderCause text t r → (entered q) .refusal ≡ r
   reader-due d c = let (q, d′, e) = dues c in ap (λ q. (entered q) .refusal) (due-once d d′) ∙ e
+
+  pub reader-numbered : {r : Refusal} → ReaderCause text t r → r .number ≤ 15
+  reader-numbered (Causes.differ n) = omega arith
+  reader-numbered (Causes.long v l) = omega arith
+  reader-numbered (Causes.broken p b n) = omega arith
+  reader-numbered (Causes.stopped v b n) = omega arith
+  reader-numbered (Causes.deep p b a d) = omega arith
+  reader-numbered (Causes.many p b a d) = omega arith
+  reader-numbered (Causes.none e w) = omega arith

@@ -188,3 +188,22 @@ module _ (g : Table) where
   table-due (none w) =
       later-due (record { even = w .lengths; nonempty = w .nonempty; short = w .short }) (clean (none-before (size g) (w .faultless)))
       (clean (λ i l. fault-none g i (w .once i l)))
+
+  pub table-numbered : {r : Refusal} → TableCause g r → r .number ≤ 8
+  table-numbered (differ n) = omega arith
+  table-numbered (empty v z) = omega arith
+  table-numbered (long v l) = omega arith
+  table-numbered (entry v p l h (unknown a)) = omega arith
+  table-numbered (entry v p l h (outside a f)) = omega arith
+  table-numbered (entry v p l h (not-smaller a f c m b)) = omega arith
+  table-numbered (entry v p l h (inside z f a)) = omega arith
+  table-numbered (not-once v h p l o n) = omega arith
+  table-numbered (none w) = omega arith
+
+  pub table-clear : {r : Refusal} → TableCause g r → r .number ≡ 0 → WellFormed g × (r ≡ success)
+  table-clear (differ n) z = absurd (omega arith)
+  table-clear (empty v e) z = absurd (omega arith)
+  table-clear (long v l) z = absurd (omega arith)
+  table-clear (entry v p l h c) z = absurd (a-fault (size g) p (row g p) c z)
+  table-clear (not-once v h p l o n) z = absurd (omega arith)
+  table-clear (none w) z = (w, refl)
