@@ -25,5 +25,6 @@ pub mod WellFormed
 pub mod Tests
 pub mod FirstFound
 pub mod Due
+pub mod Answers
 pub mod Accepts
 pub mod Verdicts

@@ -12,8 +12,9 @@ use Rattle.theory.specs.Expression.{Expression}
 use Rattle.theory.specs.Refusal.{Refusal, refusal, success, or-else, columns-differ, room-small}
 use Rattle.theory.specs.Table.{Table, tree, table-refusal}
 use Rattle.theory.specs.Automaton.{states, arcs, expressions}
-use Rattle.theory.specs.Build.{Lent, even, over-room, build-refusal, expression-room, state-room, arc-room}
+use Rattle.theory.specs.Build.{Lent, Counts, counts, even, over-room, build-refusal, expression-room, state-room, arc-room}
 use Rattle.theory.proofs.Tests.{and-left, and-right, or-true, or-of, false-of}
+use Rattle.theory.proofs.Answers.{counts-built, counts-refused}
 use Rattle.theory.proofs.WellFormed.{WellFormed}
 use Rattle.promises.specs.Table as Tables
 use Rattle.promises.specs.Table.{TableCause}
@@ -114,3 +115,17 @@ module _ (g : Table) (c : Lent) where
   builder-numbered (table v t n) = let l = table-numbered g t in omega arith
   builder-numbered (room v w o) = omega arith
   builder-numbered (none v w n) = omega arith
+
+  pub builder-clear : {r : Refusal} → BuilderCause g c r → r .number ≡ 0 → r ≡ success
+  builder-clear (differ n) z = absurd (omega arith)
+  builder-clear (table v t n) z = absurd (n z)
+  builder-clear (room v w o) z = absurd (omega arith)
+  builder-clear (none v w n) z = refl
+
+  -- The answer's refusal is the one that is due.
+  pub builder-answers : (counts g c) .refusal ≡ build-refusal g c
+  builder-answers = go (ℕ-discrete ((build-refusal g c) .number) 0)
+    where
+      go : Dec ((build-refusal g c) .number ≡ 0) → (counts g c) .refusal ≡ build-refusal g c
+      go (yes z) = ap (λ (a : Counts). a .refusal) (counts-built g c z) ∙ sym (builder-clear builder-caused z)
+      go (no n) = ap (λ (a : Counts). a .refusal) (counts-refused g c n)

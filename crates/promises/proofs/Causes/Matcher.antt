@@ -1,5 +1,6 @@
 -- The matcher's refusals have their causes. Assumes nothing.
 use Prim.Native.Nat.{ℕ, _≤_, _<_}
+use native.Mathlib.Decide.{ℕ-discrete}
 use native.Mathlib.Omega.{arith}
 use mathlib.Core.Path.{_≡_, refl, sym, ap, _∙_, subst}
 use mathlib.Core.Logic.{_↔_, _⊎_, inl, inr, ⊎-elim}
@@ -8,7 +9,10 @@ use lib.ListN.{length, getD}
 use lib.Dec.{eqb, leb, ltb}
 use borrow.Author.Tests.{eqb-true, eqb-false, eq-eqb, ne-eqb, leb-true, leb-false, ltb-true, ltb-false, lt-ltb, le-ltb, not-true, not-false}
 use Rattle.theory.specs.Refusal.{Refusal, refusal, success, columns-differ, automaton-malformed, work-short}
-use Rattle.theory.specs.Record.{Handed, words, states-fit, arcs-fit, accepting-fits, ends-fit, well-formed, matcher-refusal}
+use Rattle.theory.specs.Language.{Word}
+use Rattle.theory.specs.Judge.{Judgement, judgement, given}
+use Rattle.theory.specs.Record.{Handed, Verdict, accepted, unfinished, wrong, verdict, live, words, states-fit, arcs-fit, accepting-fits, ends-fit, well-formed, matcher-refusal}
+use Rattle.theory.proofs.Answers.{judgement-given, judgement-refused}
 use Rattle.theory.proofs.Below.{all-at}
 use Rattle.theory.proofs.Tests.{and-left, and-right, and-false, or-true, or-of, or-left, or-right, false-of, true-of, all-false}
 use Rattle.promises.specs.Matcher.{EvenArcs, Malformed, no-state, many-states, states-beyond, arcs-beyond, many-arcs, accepting-value, from-beyond, to-beyond, letter-zero, MatcherCause, differ, malformed, short, none}
@@ -143,3 +147,23 @@ module _ (h : Handed) (now next : ℕ) where
   matcher-numbered (malformed v m) = omega arith
   matcher-numbered (short v n l) = omega arith
   matcher-numbered (none v n l m) = omega arith
+
+  pub matcher-clear : {r : Refusal} → MatcherCause h now next r → r .number ≡ 0 → r ≡ success
+  matcher-clear (differ n) z = absurd (omega arith)
+  matcher-clear (malformed v m) z = absurd (omega arith)
+  matcher-clear (short v n l) z = absurd (omega arith)
+  matcher-clear (none v n l m) z = refl
+
+  -- The answer's refusal is the one that is due.
+  pub matcher-answers : (w : Word) → (judgement h now next w) .refusal ≡ matcher-refusal h now next
+  matcher-answers w = go (ℕ-discrete ((matcher-refusal h now next) .number) 0)
+    where
+      fine : (v : Verdict) (n : ℕ) → (given v n) .refusal ≡ success
+      fine accepted n = refl
+      fine unfinished n = refl
+      fine (wrong p) n = refl
+
+      go : Dec ((matcher-refusal h now next) .number ≡ 0) → (judgement h now next w) .refusal ≡ matcher-refusal h now next
+      go (yes z) =
+          ap (λ (a : Judgement). a .refusal) (judgement-given h now next w z) ∙ fine (verdict h w) (live h w) ∙ sym (matcher-clear matcher-caused z)
+      go (no n) = ap (λ (a : Judgement). a .refusal) (judgement-refused h now next w n)
