@@ -1,3 +1,4 @@
 pub mod Causes
 pub mod Examples
 pub mod DemandOne
+pub mod DemandTwo

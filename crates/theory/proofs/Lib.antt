@@ -26,5 +26,6 @@ pub mod Tests
 pub mod FirstFound
 pub mod Due
 pub mod Answers
+pub mod Filled
 pub mod Accepts
 pub mod Verdicts
