@@ -2,3 +2,4 @@ pub mod Causes
 pub mod Examples
 pub mod DemandOne
 pub mod DemandTwo
+pub mod DemandThree
