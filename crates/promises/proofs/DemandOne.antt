@@ -22,7 +22,7 @@ use Rattle.promises.specs.Builder.{BuilderCause, BuilderMeets}
 use Rattle.promises.specs.Matcher.{MatcherCause, MatcherMeets}
 use Rattle.promises.proofs.Causes.{exactly}
 use Rattle.promises.proofs.Causes.Reader.{reader-caused, reader-due, reader-numbered}
-use Rattle.promises.proofs.Causes.Builder.{builder-caused, builder-due, builder-numbered, builder-answers}
+use Rattle.promises.proofs.Causes.Builder.{builder-caused, builder-due, builder-numbered, builder-answers, builder-number}
 use Rattle.promises.proofs.Causes.Matcher.{matcher-caused, matcher-due, matcher-numbered, matcher-answers}
 
 -- Whoever meets the contract of a call meets the demand.
@@ -52,37 +52,28 @@ reader-meets {text} {t} {answer} h = record {
 
 builder-meets : {g : Table} {c : Lent} {answer : Counts} {c′ : Lent} → Built g c answer c′ → BuilderMeets g c answer c′
 builder-meets {g} {c} {answer} h = record {
-  exact = exactly (BuilderCause g c) same (builder-caused g c) (λ r. builder-due g c);
-  numbered = rw same (le-trans (builder-numbered g c (builder-caused g c)) (omega arith));
+  exact = exactly (BuilderCause g c) (builder-answers h) (builder-caused g c) (λ r. builder-due g c);
+  numbered = rw (builder-answers h) (le-trans (builder-numbered g c (builder-caused g c)) (omega arith));
   counts = λ n. let e = h .answers ∙ counts-refused g c (again n) in
       (ap (λ (a : Counts). a .states) e, ap (λ (a : Counts). a .expressions) e, ap (λ (a : Counts). a .arcs) e);
   columns = λ n. h .refused (again n);
 }
   where
-    same : answer .refusal ≡ build-refusal g c
-    same = ap (λ (a : Counts). a .refusal) (h .answers) ∙ builder-answers g c
-
     again : ¬ (answer .refusal .number ≡ 0) → ¬ ((build-refusal g c) .number ≡ 0)
-    again n z = n (ap (λ (r : Refusal). r .number) same ∙ z)
+    again n z = n (builder-number h ∙ z)
 
 matcher-meets : {h : Handed} {w : Word} {now next : List ℕ} {answer : Judgement} {now′ next′ : List ℕ}
     → Judged h w now next answer now′ next′ → MatcherMeets h now next answer now′ next′
 matcher-meets {h} {w} {now} {next} {answer} j = record {
-  exact = exactly (MatcherCause h a b) same (matcher-caused h a b) (λ r. matcher-due h a b);
-  numbered = rw same (le-trans (matcher-numbered h a b (matcher-caused h a b)) (omega arith));
-  counts = λ n. let e = j .answers ∙ judgement-refused h a b w (λ z. n (ap (λ (r : Refusal). r .number) same ∙ z)) in
-      (ap (λ (x : Judgement). x .verdict) e, ap (λ (x : Judgement). x .place) e, ap (λ (x : Judgement). x .live) e);
+  exact = exactly (MatcherCause h (length now) (length next)) (matcher-answers j) caused (λ r. matcher-due h (length now) (length next));
+  numbered = rw (matcher-answers j) (le-trans (matcher-numbered h (length now) (length next) caused) (omega arith));
+  counts = λ n. let e = j .answers ∙ judgement-refused h (length now) (length next) w (λ z. n (ap (λ (r : Refusal). r .number) (matcher-answers j) ∙ z)) in
+      (ap (λ (a : Judgement). a .verdict) e, ap (λ (a : Judgement). a .place) e, ap (λ (a : Judgement). a .live) e);
   columns = (j .now-zero, j .next-zero);
 }
   where
-    a : ℕ
-    a = length now
-
-    b : ℕ
-    b = length next
-
-    same : answer .refusal ≡ matcher-refusal h a b
-    same = ap (λ (x : Judgement). x .refusal) (j .answers) ∙ matcher-answers h a b w
+    caused : MatcherCause h (length now) (length next) (matcher-refusal h (length now) (length next))
+    caused = matcher-caused h (length now) (length next)
 
 pub demand-one : DemandOne
 demand-one = record { reads = reader-meets; builds = builder-meets; judges = matcher-meets }

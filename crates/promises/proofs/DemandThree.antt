@@ -61,7 +61,7 @@ built : {g : Table} {c : Lent} {answer : Counts} {c′ : Lent} → (table-refusa
     → letter-entries g ≤ 10 → size g * 2 ^ letter-entries g + 1 ≤ 65535 → Roomy c (size g) (letter-entries g)
     → Built g c answer c′ → answer .refusal ≡ success
 built {g} {c} {answer} z few small r h =
-    ap (λ (a : Counts). a .refusal) (h .answers) ∙ builder-answers g c ∙ builder-due g c (none (r .even) (well-formed g z) fits)
+    builder-answers h ∙ builder-due g c (none (r .even) (well-formed g z) fits)
   where
     fits : ¬ OverRoom (tree g) c
     fits (of-expressions l) = let n = needed g z .expressions in let b = r .expressions in omega arith

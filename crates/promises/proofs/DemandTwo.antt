@@ -20,7 +20,7 @@ use Rattle.theory.proofs.Answers.{counts-built, judgement-given}
 use Rattle.theory.proofs.Filled.{filled-length, filled-up, filled-well-formed, filled-language}
 use Rattle.promises.specs.Builder.{EvenLent, OverRoom, of-expressions, of-states, of-arcs, BuilderCause, differ, table, room, none}
 use Rattle.promises.specs.Matcher as Matching
-use Rattle.promises.proofs.Causes.Builder.{builder-caused, builder-due, builder-answers}
+use Rattle.promises.proofs.Causes.Builder.{builder-caused, builder-due, builder-number}
 use Rattle.promises.proofs.Causes.Table.{table-numbered}
 use Rattle.promises.proofs.Causes.Matcher.{never-malformed, matcher-due, matcher-answers}
 
@@ -58,7 +58,7 @@ given-one (wrong p) n = (λ z. absurd (omega arith), λ q. let z : _≡_ {A = �
 
 module _ {g : Table} {c : Lent} {answer : Counts} {c′ : Lent} (h : Built g c answer c′) (built : answer .refusal .number ≡ 0) where
   clear : (build-refusal g c) .number ≡ 0
-  clear = sym (ap (λ (r : Refusal). r .number) (ap (λ (a : Counts). a .refusal) (h .answers) ∙ builder-answers g c)) ∙ built
+  clear = sym (builder-number h) ∙ built
 
   even : EvenLent c
   even = had (builder-caused g c) clear .0
@@ -117,7 +117,7 @@ module _ {g : Table} {c : Lent} {answer : Counts} {c′ : Lent} (h : Built g c a
 
     pub accepted-exactly : (a .refusal ≡ success) × ((a .verdict ≡ 1) ↔ In (tree g) w)
     accepted-exactly = (
-      ap (λ (x : Judgement). x .refusal) judged ∙ matcher-answers left (length now) (length next) w ∙ not-refused,
+      matcher-answers j ∙ ap (λ (k : Handed). matcher-refusal k (length now) (length next)) handed-over ∙ not-refused,
       subst (λ (x : Judgement). (x .verdict ≡ 1) ↔ In (tree g) w)
       (sym (judged ∙ judgement-given left (length now) (length next) w (ap (λ (r : Refusal). r .number) not-refused)))
       (Iff·trans (given-one (verdict left w) (live left w)) (filled-language (tree g) _ _ _ _ (tree-lettered well) few-states few-arcs w)),
@@ -125,11 +125,10 @@ module _ {g : Table} {c : Lent} {answer : Counts} {c′ : Lent} (h : Built g c a
 
 refused-exactly : {g : Table} {c : Lent} {answer : Counts} {c′ : Lent} → Built g c answer c′
     → (answer .refusal .number ≡ 9) ↔ (EvenLent c × WellFormed g × OverRoom (tree g) c)
-refused-exactly {g} {c} {answer} h =
-    (λ q. short-of-room (builder-caused g c) (sym same ∙ q), λ (v, w, o). same ∙ ap (λ (r : Refusal). r .number) (builder-due g c (room v w o)))
-  where
-    same : answer .refusal .number ≡ (build-refusal g c) .number
-    same = ap (λ (r : Refusal). r .number) (ap (λ (a : Counts). a .refusal) (h .answers) ∙ builder-answers g c)
+refused-exactly {g} {c} h = (
+  λ q. short-of-room (builder-caused g c) (sym (builder-number h) ∙ q),
+  λ (v, w, o). builder-number h ∙ ap (λ (r : Refusal). r .number) (builder-due g c (room v w o)),
+)
 
 pub demand-two : DemandTwo
 demand-two = record { accepts = λ h built j now next. accepted-exactly h built j now next; refuses = refused-exactly }

@@ -3,3 +3,5 @@ pub mod Examples
 pub mod DemandOne
 pub mod DemandTwo
 pub mod DemandThree
+pub mod ReadThenBuild
+pub mod Once

@@ -12,7 +12,7 @@ use Rattle.theory.specs.Expression.{Expression}
 use Rattle.theory.specs.Refusal.{Refusal, refusal, success, or-else, columns-differ, room-small}
 use Rattle.theory.specs.Table.{Table, tree, table-refusal}
 use Rattle.theory.specs.Automaton.{states, arcs, expressions}
-use Rattle.theory.specs.Build.{Lent, Counts, counts, even, over-room, build-refusal, expression-room, state-room, arc-room}
+use Rattle.theory.specs.Build.{Lent, Counts, counts, Built, even, over-room, build-refusal, expression-room, state-room, arc-room}
 use Rattle.theory.proofs.Tests.{and-left, and-right, or-true, or-of, false-of}
 use Rattle.theory.proofs.Answers.{counts-built, counts-refused}
 use Rattle.theory.proofs.WellFormed.{WellFormed}
@@ -122,10 +122,13 @@ module _ (g : Table) (c : Lent) where
   builder-clear (room v w o) z = absurd (omega arith)
   builder-clear (none v w n) z = refl
 
-  -- The answer's refusal is the one that is due.
-  pub builder-answers : (counts g c) .refusal ≡ build-refusal g c
-  builder-answers = go (ℕ-discrete ((build-refusal g c) .number) 0)
-    where
-      go : Dec ((build-refusal g c) .number ≡ 0) → (counts g c) .refusal ≡ build-refusal g c
-      go (yes z) = ap (λ (a : Counts). a .refusal) (counts-built g c z) ∙ sym (builder-clear builder-caused z)
-      go (no n) = ap (λ (a : Counts). a .refusal) (counts-refused g c n)
+-- The answer's refusal is the one that is due.
+pub builder-answers : {g : Table} {c : Lent} {answer : Counts} {c′ : Lent} → Built g c answer c′ → answer .refusal ≡ build-refusal g c
+builder-answers {g} {c} h = ap (λ (a : Counts). a .refusal) (h .answers) ∙ go (ℕ-discrete ((build-refusal g c) .number) 0)
+  where
+    go : Dec ((build-refusal g c) .number ≡ 0) → (counts g c) .refusal ≡ build-refusal g c
+    go (yes z) = ap (λ (a : Counts). a .refusal) (counts-built g c z) ∙ sym (builder-clear g c (builder-caused g c) z)
+    go (no n) = ap (λ (a : Counts). a .refusal) (counts-refused g c n)
+
+pub builder-number : {g : Table} {c : Lent} {answer : Counts} {c′ : Lent} → Built g c answer c′ → answer .refusal .number ≡ (build-refusal g c) .number
+builder-number h = ap (λ (r : Refusal). r .number) (builder-answers h)

@@ -5,12 +5,13 @@ use native.Mathlib.Omega.{arith}
 use mathlib.Core.Path.{_≡_, refl, sym, ap, _∙_, subst}
 use mathlib.Core.Logic.{_↔_, _⊎_, inl, inr, ⊎-elim}
 use mathlib.Core.Bool.{Bool, true, false, cond, not, _&&_, _||_, false≢true}
+use mathlib.Core.List.{List}
 use lib.ListN.{length, getD}
 use lib.Dec.{eqb, leb, ltb}
 use borrow.Author.Tests.{eqb-true, eqb-false, eq-eqb, ne-eqb, leb-true, leb-false, ltb-true, ltb-false, lt-ltb, le-ltb, not-true, not-false}
 use Rattle.theory.specs.Refusal.{Refusal, refusal, success, columns-differ, automaton-malformed, work-short}
 use Rattle.theory.specs.Language.{Word}
-use Rattle.theory.specs.Judge.{Judgement, judgement, given}
+use Rattle.theory.specs.Judge.{Judgement, Judged, judgement, given}
 use Rattle.theory.specs.Record.{Handed, Verdict, accepted, unfinished, wrong, verdict, live, words, states-fit, arcs-fit, accepting-fits, ends-fit, well-formed, matcher-refusal}
 use Rattle.theory.proofs.Answers.{judgement-given, judgement-refused}
 use Rattle.theory.proofs.Below.{all-at}
@@ -154,16 +155,20 @@ module _ (h : Handed) (now next : ℕ) where
   matcher-clear (short v n l) z = absurd (omega arith)
   matcher-clear (none v n l m) z = refl
 
-  -- The answer's refusal is the one that is due.
-  pub matcher-answers : (w : Word) → (judgement h now next w) .refusal ≡ matcher-refusal h now next
-  matcher-answers w = go (ℕ-discrete ((matcher-refusal h now next) .number) 0)
-    where
-      fine : (v : Verdict) (n : ℕ) → (given v n) .refusal ≡ success
-      fine accepted n = refl
-      fine unfinished n = refl
-      fine (wrong p) n = refl
+-- The answer's refusal is the one that is due.
+pub matcher-answers : {h : Handed} {w : Word} {now next : List ℕ} {answer : Judgement} {now′ next′ : List ℕ}
+    → Judged h w now next answer now′ next′ → answer .refusal ≡ matcher-refusal h (length now) (length next)
+matcher-answers {h} {w} {now} {next} j =
+    ap (λ (a : Judgement). a .refusal) (j .answers) ∙ go (ℕ-discrete ((matcher-refusal h (length now) (length next)) .number) 0)
+  where
+    fine : (v : Verdict) (n : ℕ) → (given v n) .refusal ≡ success
+    fine accepted n = refl
+    fine unfinished n = refl
+    fine (wrong p) n = refl
 
-      go : Dec ((matcher-refusal h now next) .number ≡ 0) → (judgement h now next w) .refusal ≡ matcher-refusal h now next
-      go (yes z) =
-          ap (λ (a : Judgement). a .refusal) (judgement-given h now next w z) ∙ fine (verdict h w) (live h w) ∙ sym (matcher-clear matcher-caused z)
-      go (no n) = ap (λ (a : Judgement). a .refusal) (judgement-refused h now next w n)
+    go : Dec ((matcher-refusal h (length now) (length next)) .number ≡ 0)
+        → (judgement h (length now) (length next) w) .refusal ≡ matcher-refusal h (length now) (length next)
+    go (yes z) =
+        ap (λ (a : Judgement). a .refusal) (judgement-given h (length now) (length next) w z) ∙ fine (verdict h w) (live h w)
+        ∙ sym (matcher-clear h (length now) (length next) (matcher-caused h (length now) (length next)) z)
+    go (no n) = ap (λ (a : Judgement). a .refusal) (judgement-refused h (length now) (length next) w n)
