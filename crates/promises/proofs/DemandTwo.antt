@@ -119,8 +119,8 @@ module _ {g : Table} {c : Lent} {answer : Counts} {c′ : Lent} (h : Built g c a
     accepted-exactly = (
       matcher-answers j ∙ ap (λ (k : Handed). matcher-refusal k (length now) (length next)) handed-over ∙ not-refused,
       subst (λ (x : Judgement). (x .verdict ≡ 1) ↔ In (tree g) w)
-      (sym (judged ∙ judgement-given left (length now) (length next) w (ap (λ (r : Refusal). r .number) not-refused)))
-      (Iff·trans (given-one (verdict left w) (live left w)) (filled-language (tree g) _ _ _ _ (tree-lettered well) few-states few-arcs w)),
+          (sym (judged ∙ judgement-given left (length now) (length next) w (ap (λ (r : Refusal). r .number) not-refused)))
+          (Iff·trans (given-one (verdict left w) (live left w)) (filled-language (tree g) _ _ _ _ (tree-lettered well) few-states few-arcs w)),
     )
 
 refused-exactly : {g : Table} {c : Lent} {answer : Counts} {c′ : Lent} → Built g c answer c′

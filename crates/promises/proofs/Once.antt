@@ -48,7 +48,7 @@ pub record SameBuild (n m : ℕ) (c d : Lent) : Type 0 where
 cleared-once : {c d d′ : Lent} → Cleared c d → Cleared c d′ → d ≡ d′
 cleared-once h k =
     λ i. lent (table ((h .kind ∙ sym (k .kind)) i) ((h .left ∙ sym (k .left)) i) ((h .right ∙ sym (k .right)) i)) ((h .expression ∙ sym (k .expression)) i)
-        ((h .accepting ∙ sym (k .accepting)) i) ((h .from ∙ sym (k .from)) i) ((h .letter ∙ sym (k .letter)) i) ((h .to ∙ sym (k .to)) i)
+    ((h .accepting ∙ sym (k .accepting)) i) ((h .from ∙ sym (k .from)) i) ((h .letter ∙ sym (k .letter)) i) ((h .to ∙ sym (k .to)) i)
 
 stands-once : {e : Expression} {c d d′ : Lent} → Stands e c d → Stands e c d′ → SameBuild (length (expressions e)) (length (states e)) d d′
 stands-once h k = record {

@@ -2,3 +2,4 @@ pub mod Reader
 pub mod Table
 pub mod Builder
 pub mod Matcher
+pub mod Examples
