@@ -1,17 +1,17 @@
 -- The letter's third demand: "Take any well-formed expression of n entries, m of them letters counted with repeats, with m at most 10 and n
 -- times 2^m, plus 1, at most 65,535. It needs at most 2^m states, at most n times 2^m plus 1 expressions, and at most m times 4^m arcs. So a
 -- site whose tables have these sizes is never refused for room."
-use Prim.Native.Nat.{ℕ, _+_, _*_, _^_, _≤_, _<_}
+use Prim.Native.Nat.{ℕ, _+_, _*_, _^_, _≤_}
 use native.Mathlib.Nat.{le-trans, mul-le-mul, pow-le-pow-right}
 use native.Mathlib.Omega.{arith}
-use mathlib.Core.Path.{_≡_, refl, sym, ap, _∙_, subst}
+use mathlib.Core.Path.{_≡_, _∙_, subst}
 use lib.ListN.{length}
 use lib.Dec.{eqb}
-use Rattle.theory.specs.Refusal.{Refusal, success}
+use Rattle.theory.specs.Refusal.{success}
 use Rattle.theory.specs.Expression.{entries, letters}
 use Rattle.theory.specs.Table.{Table, row, size, tree, table-refusal}
 use Rattle.theory.specs.Automaton.{states, expressions, arcs}
-use Rattle.theory.specs.Build.{Lent, Counts, Built, build-refusal}
+use Rattle.theory.specs.Build.{Lent, Counts, Built}
 use Rattle.theory.specs.Record.{count-below}
 use Rattle.theory.proofs.WellFormed.{WellFormed, well-formed, tree-entries, tree-letters}
 use Rattle.theory.proofs.Bounds.{states-bound, expressions-bound, arcs-bound}

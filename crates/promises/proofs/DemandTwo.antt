@@ -1,7 +1,7 @@
 -- The letter's second demand: "For every expression that builds, a record is accepted exactly when it belongs to the expression's language",
 -- and "A build is refused for room exactly when the published derivative rules, in the form 01 gives, need more states, arcs or expressions than
 -- the lent room, capped as 01 says."
-use Prim.Native.Nat.{ℕ, _≤_, min}
+use Prim.Native.Nat.{ℕ, _≤_}
 use native.Mathlib.Omega.{arith, by-contra}
 use mathlib.Core.Path.{_≡_, refl, sym, ap, _∙_, subst}
 use mathlib.Core.Logic.{_↔_, Iff·trans}
@@ -12,13 +12,13 @@ use Rattle.theory.specs.Column.{filled}
 use Rattle.theory.specs.Language.{Word, In}
 use Rattle.theory.specs.Table.{Table, tree}
 use Rattle.theory.specs.Automaton.{Arc, states, expressions, arcs}
-use Rattle.theory.specs.Build.{Lent, Counts, Built, build-refusal, expression-room, state-room, arc-room}
+use Rattle.theory.specs.Build.{Lent, Counts, Built, build-refusal, state-room, arc-room}
 use Rattle.theory.specs.Record.{Handed, handed, Verdict, accepted, unfinished, wrong, verdict, live, matcher-refusal, words}
 use Rattle.theory.specs.Judge.{Judgement, Judged, judgement, given}
 use Rattle.theory.proofs.WellFormed.{WellFormed, tree-lettered}
 use Rattle.theory.proofs.Answers.{counts-built, judgement-given}
 use Rattle.theory.proofs.Filled.{filled-length, filled-up, filled-well-formed, filled-language}
-use Rattle.promises.specs.Builder.{EvenLent, OverRoom, of-expressions, of-states, of-arcs, BuilderCause, differ, table, room, none}
+use Rattle.promises.specs.Builder.{EvenLent, OverRoom, of-states, of-arcs, BuilderCause, differ, table, room, none}
 use Rattle.promises.specs.Matcher as Matching
 use Rattle.promises.proofs.Causes.Builder.{builder-caused, builder-due, builder-number}
 use Rattle.promises.proofs.Causes.Table.{table-numbered}

@@ -11,7 +11,7 @@ use Rattle.theory.specs.Expression.{Expression, entries}
 use Rattle.theory.specs.Refusal.{Refusal, success}
 use Rattle.theory.specs.Column.{filled}
 use Rattle.theory.specs.Table.{Table, Row, table, columns, tree, table-refusal}
-use Rattle.theory.specs.Grammar.{Text, Reading, read, refused, rows, written, Writable, Reads, whole, broken, stopped, deep, many}
+use Rattle.theory.specs.Grammar.{Text, Reading, read, rows, written, Writable, Reads, whole, broken, stopped, deep, many}
 use Rattle.theory.specs.Read.{Read, Entered, entered, Due, differ, long, short}
 use Rattle.theory.specs.Build.{Lent, Counts, Built}
 use Rattle.theory.proofs.Due.{left-by, leaves}

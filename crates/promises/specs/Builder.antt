@@ -1,5 +1,5 @@
 -- Demand 1 at `builder::build`: the cause of each refusal, in the order of 01's table, and what a call is held to.
-use Prim.Native.Nat.{ℕ, _≤_, _<_}
+use Prim.Native.Nat.{_≤_, _<_}
 use mathlib.Core.Path.{_≡_}
 use mathlib.Core.Logic.{_↔_}
 use lib.ListN.{length}

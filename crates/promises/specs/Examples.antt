@@ -4,7 +4,7 @@ use Prim.Native.Nat.{ℕ}
 use mathlib.Core.Bool.{Bool, true, false, _&&_}
 use mathlib.Core.List.{List, [], _∷_}
 use lib.ListN.{length}
-use lib.Dec.{T, eqb}
+use lib.Dec.{eqb}
 use Rattle.theory.specs.Column.{zeros}
 use Rattle.theory.specs.Refusal.{Refusal, refusal, success, room-small}
 use Rattle.theory.specs.Automaton.{states, expressions, arcs}

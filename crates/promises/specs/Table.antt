@@ -1,7 +1,7 @@
 -- Refusals 1 to 8 of an expression table: the cause of each, in the order of 01's table.
 use Prim.Native.Nat.{ℕ, pred, _≤_, _<_}
 use mathlib.Core.Path.{_≡_}
-use mathlib.Core.Bool.{true, false}
+use mathlib.Core.Bool.{true}
 use mathlib.Core.List.{List·Memᴰ}
 use Rattle.theory.specs.Refusal.{Refusal, refusal, success, columns-differ, table-empty, table-long, kind-unknown, field-outside, child-not-smaller, empty-language-inside, not-named-once}
 use Rattle.theory.specs.Table.{Table, Row, row, size, meaning, fields-fit, row-children, times, named}

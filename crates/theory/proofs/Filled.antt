@@ -1,7 +1,7 @@
 -- The automaton of an expression in columns that are longer than it needs, zero beyond it: what `build` leaves and `judge` is handed. The
 -- columns are even and well-formed, and the verdict on a record is `accepted` exactly when it is a word of the language. Leans on `Accepts` and
 -- `Verdicts`.
-use Prim.Native.Nat.{ℕ, _-_, _≤_}
+use Prim.Native.Nat.{ℕ, _≤_}
 use native.Mathlib.Nat.{le-of-eq}
 use native.Mathlib.Omega.{arith}
 use mathlib.Core.Path.{_≡_, refl, sym, ap, _∙_, subst}
@@ -11,7 +11,7 @@ use mathlib.Core.List.{List, map}
 use lib.ListN.{length, length-append, length-map, length-replicate}
 use Rattle.theory.specs.Expression.{Expression}
 use Rattle.theory.specs.Language.{Word, In}
-use Rattle.theory.specs.Column.{zeros, filled}
+use Rattle.theory.specs.Column.{filled}
 use Rattle.theory.specs.Automaton.{Arc, states, accepting, arcs}
 use Rattle.theory.specs.Record.{Handed, handed, automaton, Verdict, accepted, verdict, well-formed}
 use Rattle.theory.proofs.WellFormed.{Lettered}

@@ -1,7 +1,7 @@
 -- Boolean tests that fail or pass: which part of a conjunction, of a disjunction, of a test over the numbers below n. Assumes nothing.
 use Prim.Native.Nat.{ℕ, zero, suc, _<_}
 use native.Mathlib.Nat.{le-refl, le-step}
-use mathlib.Core.Path.{_≡_, refl, sym, _∙_}
+use mathlib.Core.Path.{_≡_, refl, sym}
 use mathlib.Core.Logic.{_⊎_, inl, inr}
 use mathlib.Core.Bool.{Bool, true, false, _&&_, _||_, false≢true}
 use Rattle.theory.specs.Record.{all-below}

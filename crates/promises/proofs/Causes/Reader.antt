@@ -1,9 +1,8 @@
 -- The reader's refusals have their causes. Leans on `Grammar`: what a text that is read makes, and on `Due`: one reading is due.
-use Prim.Native.Nat.{ℕ, _≤_}
+use Prim.Native.Nat.{_≤_}
 use native.Mathlib.Omega.{arith}
 use mathlib.Core.Path.{_≡_, refl, sym, ap, _∙_}
 use mathlib.Core.List.{[], append-nil}
-use Rattle.theory.specs.Expression.{entries}
 use Rattle.theory.specs.Refusal.{Refusal}
 use Rattle.theory.specs.Table.{Table}
 use Rattle.theory.specs.Grammar.{Text, Reading, Passed, Reads, whole, broken, stopped, deep, many}
@@ -12,7 +11,7 @@ use Rattle.theory.proofs.Grammar.Count.{made-written}
 use Rattle.theory.proofs.Rows.{read-fits}
 use Rattle.theory.proofs.Due.{due-once}
 use Rattle.promises.specs.Reader as Causes
-use Rattle.promises.specs.Reader.{Legible, Reached, Written, ReaderCause, entry-room}
+use Rattle.promises.specs.Reader.{Legible, ReaderCause, entry-room}
 
 module _ {text : Text} {t : Table} where
   pub reader-caused : {q : Reading} → Due text t q → ReaderCause text t ((entered q) .refusal)

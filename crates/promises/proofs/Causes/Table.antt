@@ -3,20 +3,20 @@ use Prim.Native.Nat.{ℕ, pred, _≤_, _<_}
 use native.Mathlib.Decide.{ℕ-discrete, decLt}
 use native.Mathlib.Omega.{arith}
 use mathlib.Core.Path.{_≡_, refl, sym, ap, _∙_, subst}
-use mathlib.Core.Logic.{_⊎_, inl, inr, ⊎-elim}
+use mathlib.Core.Logic.{_⊎_, inl, inr}
 use mathlib.Core.Bool.{Bool, true, false, cond, not, _&&_, false≢true}
 use mathlib.Core.List.{List, [], _∷_, List·Memᴰ, List·Memᴰ·head, List·Memᴰ·tail, List·Memᴰ·not-nil, List·Memᴰ·cases-cons}
 use lib.ListN.{length}
 use lib.Dec.{eqb, ltb}
 use borrow.Author.Tests.{eqb-true, eqb-false, eq-eqb, ne-eqb, ltb-true, ltb-false, lt-ltb, le-ltb}
-use Rattle.theory.specs.Refusal.{Refusal, refusal, success, or-else, kind-unknown, field-outside, child-not-smaller, empty-language-inside, not-named-once}
-use Rattle.theory.specs.Table.{Table, Row, row, size, meaning, children, fields-fit, row-children, all-below, entry-fault, times, named, naming-fault, first-fault, table-refusal}
+use Rattle.theory.specs.Refusal.{Refusal, refusal, success, or-else, kind-unknown, field-outside, child-not-smaller, empty-language-inside}
+use Rattle.theory.specs.Table.{Table, Row, row, size, meaning, children, fields-fit, row-children, all-below, entry-fault, naming-fault, first-fault, table-refusal}
 use Rattle.theory.proofs.Tests.{false-of, true-of}
-use Rattle.theory.proofs.TableRefusal.{SameLengths, later-refusal, refused-differ, refused-empty, refused-long, refused-later}
+use Rattle.theory.proofs.TableRefusal.{SameLengths, refused-differ, refused-empty, refused-long, refused-later}
 use Rattle.theory.proofs.Times.{fault-none, fault-found, once-of}
 use Rattle.theory.proofs.FirstFound.{Scanned, clean, faulty, scanned, scanned-once}
 use Rattle.theory.proofs.WellFormed.{Faultless, WellFormed}
-use Rattle.promises.specs.Table.{FieldsFit, EntryCause, unknown, outside, not-smaller, inside, Sized, FaultlessBefore, NamedOnce, TableCause, differ, empty, long, entry, not-once, none}
+use Rattle.promises.specs.Table.{EntryCause, unknown, outside, not-smaller, inside, Sized, FaultlessBefore, NamedOnce, TableCause, differ, empty, long, entry, not-once, none}
 
 -- ---- One entry
 
