@@ -1,12 +1,6 @@
 -- Each of the three calls is refused exactly where there is cause: the causes of `specs/` against the definitions that the contracts cite.
-use mathlib.Core.Path.{_≡_, sym, _∙_, subst}
-use mathlib.Core.Logic.{_↔_}
-use Rattle.theory.specs.Refusal.{Refusal}
+pub mod Exactly
 pub mod Reader
 pub mod Table
 pub mod Builder
 pub mod Matcher
-
--- The answer a that gives the refusal b gives it exactly where there is cause, if there is cause for b and for nothing else.
-pub exactly : (Cause : Refusal → Type 0) {a b : Refusal} → a ≡ b → Cause b → ((r : Refusal) → Cause r → b ≡ r) → (r : Refusal) → (a ≡ r) ↔ Cause r
-exactly Cause e c due r = (λ q. subst Cause (sym e ∙ q) c, λ d. e ∙ due r d)

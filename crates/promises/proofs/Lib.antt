@@ -1,6 +1,7 @@
 pub mod Causes
 pub mod Examples
 pub mod DemandOne
+pub mod Handing
 pub mod DemandTwo
 pub mod DemandThree
 pub mod ReadThenBuild

@@ -6,7 +6,8 @@ use mathlib.Core.List.{List}
 use lib.ListN.{length, getD}
 use Rattle.theory.specs.Refusal.{Refusal, refusal, success, columns-differ, automaton-malformed, work-short}
 use Rattle.theory.specs.Column.{zeros}
-use Rattle.theory.specs.Record.{Handed, words}
+use Rattle.theory.specs.Build.{Lent, Counts}
+use Rattle.theory.specs.Record.{Handed, handed, words}
 use Rattle.theory.specs.Judge.{Judgement}
 
 -- 01: "1 there speaks of the arc columns."
@@ -39,3 +40,7 @@ pub record MatcherMeets (h : Handed) (now next : List ℕ) (answer : Judgement) 
   pub numbered : answer .refusal .number ≤ 15
   pub counts : ¬ (answer .refusal .number ≡ 0) → (answer .verdict ≡ 0) × (answer .place ≡ 0) × (answer .live ≡ 0)
   pub columns : (now′ ≡ zeros (length now)) × (next′ ≡ zeros (length next))
+
+-- What `judge` is handed after a build: the counts of the answer and the columns as they were left.
+abbrev pub after-build : Counts → Lent → Handed
+after-build answer c = handed (answer .states) (c .accepting) (answer .arcs) (c .from) (c .letter) (c .to)

@@ -1,5 +1,6 @@
 -- The builder's refusals have their causes. Leans on `Causes.Table` for the given table.
 use Prim.Native.Nat.{_≤_}
+use native.Mathlib.Nat.{le-trans}
 use native.Mathlib.Decide.{ℕ-discrete}
 use native.Mathlib.Omega.{arith}
 use mathlib.Core.Path.{_≡_, refl, sym, ap, _∙_}
@@ -18,7 +19,8 @@ use Rattle.theory.proofs.Answers.{counts-built, counts-refused}
 use Rattle.theory.proofs.WellFormed.{WellFormed}
 use Rattle.promises.specs.Table as Tables
 use Rattle.promises.specs.Table.{TableCause}
-use Rattle.promises.specs.Builder.{EvenLent, OverRoom, of-expressions, of-states, of-arcs, BuilderCause, differ, table, room, none}
+use Rattle.promises.specs.Builder.{EvenLent, OverRoom, of-expressions, of-states, of-arcs, BuilderCause, differ, table, room, none, BuilderMeets}
+use Rattle.promises.proofs.Causes.Exactly.{exactly}
 use Rattle.promises.proofs.Causes.Table.{stands, table-clear, table-caused, table-due, table-numbered}
 
 -- ---- Even columns
@@ -132,3 +134,17 @@ builder-answers {g} {c} h = ap (λ (a : Counts). a .refusal) (h .answers) ∙ go
 
 pub builder-number : {g : Table} {c : Lent} {answer : Counts} {c′ : Lent} → Built g c answer c′ → answer .refusal .number ≡ (build-refusal g c) .number
 builder-number h = ap (λ (r : Refusal). r .number) (builder-answers h)
+
+-- ---- The demand
+
+pub builder-meets : {g : Table} {c : Lent} {answer : Counts} {c′ : Lent} → Built g c answer c′ → BuilderMeets g c answer c′
+builder-meets {g} {c} {answer} h = record {
+  exact = exactly (BuilderCause g c) (builder-answers h) (builder-caused g c) (λ r. builder-due g c);
+  numbered = rw (builder-answers h) (le-trans (builder-numbered g c (builder-caused g c)) (omega arith));
+  counts = λ n. let e = h .answers ∙ counts-refused g c (again n) in
+      (ap (λ (a : Counts). a .states) e, ap (λ (a : Counts). a .expressions) e, ap (λ (a : Counts). a .arcs) e);
+  columns = λ n. h .refused (again n);
+}
+  where
+    again : ¬ (answer .refusal .number ≡ 0) → ¬ ((build-refusal g c) .number ≡ 0)
+    again n z = n (builder-number h ∙ z)

@@ -1,5 +1,6 @@
 -- The matcher's refusals have their causes. Assumes nothing.
 use Prim.Native.Nat.{ℕ, _≤_, _<_}
+use native.Mathlib.Nat.{le-trans}
 use native.Mathlib.Decide.{ℕ-discrete}
 use native.Mathlib.Omega.{arith}
 use mathlib.Core.Path.{_≡_, refl, sym, ap, _∙_}
@@ -16,7 +17,8 @@ use Rattle.theory.specs.Record.{Handed, Verdict, accepted, unfinished, wrong, v
 use Rattle.theory.proofs.Answers.{judgement-given, judgement-refused}
 use Rattle.theory.proofs.Below.{all-at}
 use Rattle.theory.proofs.Tests.{and-left, and-right, and-false, or-true, or-of, or-left, or-right, false-of, true-of, all-false}
-use Rattle.promises.specs.Matcher.{EvenArcs, Malformed, no-state, many-states, states-beyond, arcs-beyond, many-arcs, accepting-value, from-beyond, to-beyond, letter-zero, MatcherCause, differ, malformed, short, none}
+use Rattle.promises.specs.Matcher.{EvenArcs, Malformed, no-state, many-states, states-beyond, arcs-beyond, many-arcs, accepting-value, from-beyond, to-beyond, letter-zero, MatcherCause, differ, malformed, short, none, MatcherMeets}
+use Rattle.promises.proofs.Causes.Exactly.{exactly}
 
 -- ---- Refusal 10
 
@@ -172,3 +174,18 @@ matcher-answers {h} {w} {now} {next} j =
         ap (λ (a : Judgement). a .refusal) (judgement-given h (length now) (length next) w z) ∙ fine (verdict h w) (live h w)
         ∙ sym (matcher-clear h (length now) (length next) (matcher-caused h (length now) (length next)) z)
     go (no n) = ap (λ (a : Judgement). a .refusal) (judgement-refused h (length now) (length next) w n)
+
+-- ---- The demand
+
+pub matcher-meets : {h : Handed} {w : Word} {now next : List ℕ} {answer : Judgement} {now′ next′ : List ℕ}
+    → Judged h w now next answer now′ next′ → MatcherMeets h now next answer now′ next′
+matcher-meets {h} {w} {now} {next} {answer} j = record {
+  exact = exactly (MatcherCause h (length now) (length next)) (matcher-answers j) caused (λ r. matcher-due h (length now) (length next));
+  numbered = rw (matcher-answers j) (le-trans (matcher-numbered h (length now) (length next) caused) (omega arith));
+  counts = λ n. let e = j .answers ∙ judgement-refused h (length now) (length next) w (λ z. n (ap (λ (r : Refusal). r .number) (matcher-answers j) ∙ z)) in
+      (ap (λ (a : Judgement). a .verdict) e, ap (λ (a : Judgement). a .place) e, ap (λ (a : Judgement). a .live) e);
+  columns = (j .now-zero, j .next-zero);
+}
+  where
+    caused : MatcherCause h (length now) (length next) (matcher-refusal h (length now) (length next))
+    caused = matcher-caused h (length now) (length next)

@@ -5,13 +5,14 @@ use mathlib.Core.Path.{_≡_, refl, sym, ap, _∙_}
 use mathlib.Core.List.{[], append-nil}
 use Rattle.theory.specs.Refusal.{Refusal}
 use Rattle.theory.specs.Table.{Table}
-use Rattle.theory.specs.Grammar.{Text, Reading, Passed, Reads, whole, broken, stopped, deep, many}
-use Rattle.theory.specs.Read.{Due, differ, long, short, entered}
+use Rattle.theory.specs.Grammar.{Text, Reading, read, refused, Passed, Reads, whole, broken, stopped, deep, many}
+use Rattle.theory.specs.Read.{Read, Entered, Due, differ, long, short, entered}
 use Rattle.theory.proofs.Grammar.Count.{made-written}
 use Rattle.theory.proofs.Rows.{read-fits}
-use Rattle.theory.proofs.Due.{due-once}
+use Rattle.theory.proofs.Due.{due-once, left-by, leaves}
 use Rattle.promises.specs.Reader as Causes
-use Rattle.promises.specs.Reader.{Legible, ReaderCause, entry-room}
+use Rattle.promises.specs.Reader.{Legible, ReaderCause, ReaderMeets, entry-room}
+use Rattle.promises.proofs.Causes.Exactly.{exactly}
 
 module _ {text : Text} {t : Table} where
   pub reader-caused : {q : Reading} → Due text t q → ReaderCause text t ((entered q) .refusal)
@@ -54,3 +55,23 @@ module _ {text : Text} {t : Table} where
   reader-numbered (Causes.deep p b a d) = omega arith
   reader-numbered (Causes.many p b a d) = omega arith
   reader-numbered (Causes.none e w) = omega arith
+
+-- ---- The demand
+
+refused-so : (q : Reading) → ¬ ((entered q) .refusal .number ≡ 0) → (r : Refusal) × (q ≡ refused r)
+refused-so (read e) n = absurd (n refl)
+refused-so (refused r) n = (r, refl)
+
+pub reader-meets : {text : Text} {t : Table} {answer : Entered} {t′ : Table} → Read text t answer t′ → ReaderMeets text t answer t′
+reader-meets {text} {t} {answer} h = record {
+  exact = exactly (ReaderCause text t) same (reader-caused (h .due)) (λ r c. reader-due (h .due) c);
+  numbered = rw same (reader-numbered (reader-caused (h .due)));
+  count = λ n. ap (λ (a : Entered). a .entries) (h .answers) ∙ ap (λ (q : Reading). (entered q) .entries) (so n .1);
+  columns = λ n. leaves h ∙ ap (left-by t) (so n .1);
+}
+  where
+    same : answer .refusal ≡ (entered (h .reading)) .refusal
+    same = ap (λ (a : Entered). a .refusal) (h .answers)
+
+    so : ¬ (answer .refusal .number ≡ 0) → (r : Refusal) × (h .reading ≡ refused r)
+    so n = refused-so (h .reading) (λ z. n (ap (λ (r : Refusal). r .number) same ∙ z))
