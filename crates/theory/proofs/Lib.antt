@@ -27,5 +27,6 @@ pub mod FirstFound
 pub mod Due
 pub mod Answers
 pub mod Filled
+pub mod Needs
 pub mod Accepts
 pub mod Verdicts
