@@ -22,6 +22,11 @@ pub mod FirstFault
 pub mod TableRefusal
 pub mod Used
 pub mod WellFormed
-pub mod Examples
+pub mod Tests
+pub mod FirstFound
+pub mod Due
+pub mod Answers
+pub mod Filled
+pub mod Needs
 pub mod Accepts
 pub mod Verdicts

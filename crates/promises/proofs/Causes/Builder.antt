@@ -1,0 +1,150 @@
+-- The builder's refusals have their causes. Leans on `Causes.Table` for the given table.
+use Prim.Native.Nat.{_≤_}
+use native.Mathlib.Nat.{le-trans}
+use native.Mathlib.Decide.{ℕ-discrete}
+use native.Mathlib.Omega.{arith}
+use mathlib.Core.Path.{_≡_, refl, sym, ap, _∙_}
+use mathlib.Core.Logic.{inl, inr, ⊎-elim}
+use mathlib.Core.Bool.{Bool, true, false, cond, _&&_, _||_, false≢true}
+use lib.ListN.{length}
+use lib.Dec.{eqb, ltb}
+use borrow.Author.Tests.{eqb-true, eq-eqb, ltb-true, lt-ltb}
+use Rattle.theory.specs.Expression.{Expression}
+use Rattle.theory.specs.Refusal.{Refusal, refusal, success, or-else, columns-differ, room-small}
+use Rattle.theory.specs.Table.{Table, tree, table-refusal}
+use Rattle.theory.specs.Automaton.{states, arcs, expressions}
+use Rattle.theory.specs.Build.{Lent, Counts, counts, Built, even, over-room, build-refusal, expression-room, state-room, arc-room}
+use Rattle.theory.proofs.Tests.{and-left, and-right, or-true, or-of, false-of}
+use Rattle.theory.proofs.Answers.{counts-built, counts-refused}
+use Rattle.theory.proofs.WellFormed.{WellFormed}
+use Rattle.promises.specs.Table as Tables
+use Rattle.promises.specs.Table.{TableCause}
+use Rattle.promises.specs.Builder.{EvenLent, OverRoom, of-expressions, of-states, of-arcs, BuilderCause, differ, table, room, none, BuilderMeets}
+use Rattle.promises.proofs.Causes.Exactly.{exactly}
+use Rattle.promises.proofs.Causes.Table.{stands, table-clear, table-caused, table-due, table-numbered}
+
+-- ---- Even columns
+
+module _ (c : Lent) where
+  pub even-passed : even c ≡ true → EvenLent c
+  unfolding even
+  even-passed e =
+      let l = eqb (length (c .rows .left)) (length (c .rows .kind)) in
+      let r = eqb (length (c .rows .right)) (length (c .rows .kind)) in
+      let a = eqb (length (c .accepting)) (length (c .expression)) in
+      let b = eqb (length (c .letter)) (length (c .from)) in
+      let lrab = and-left (l && r && a && b) _ e in
+      let lra = and-left (l && r && a) b lrab in
+      let lr = and-left (l && r) a lra in
+      record {
+        rows = (eqb-true _ _ (and-left l r lr), eqb-true _ _ (and-right l r lr));
+        states = eqb-true _ _ (and-right (l && r) a lra);
+        letter = eqb-true _ _ (and-right (l && r && a) b lrab);
+        to = eqb-true _ _ (and-right (l && r && a && b) _ e);
+      }
+
+  pub even-passes : EvenLent c → even c ≡ true
+  unfolding even
+  even-passes v =
+      rw (eq-eqb _ _ (v .rows .0), eq-eqb _ _ (v .rows .1), eq-eqb _ _ (v .states), eq-eqb _ _ (v .letter), eq-eqb _ _ (v .to))
+
+-- ---- Refusal 9
+
+module _ (e : Expression) (c : Lent) where
+  expressions-over : Bool
+  expressions-over = ltb (expression-room c) (length (expressions e))
+
+  states-over : Bool
+  states-over = ltb (state-room c) (length (states e))
+
+  arcs-over : Bool
+  arcs-over = ltb (arc-room c) (length (arcs e))
+
+  -- The three needs, with nothing of the automaton opened.
+  three : over-room e c ≡ (expressions-over || states-over || arcs-over)
+  unfolding over-room expressions-over states-over arcs-over
+  three = refl
+
+  pub over-found : over-room e c ≡ true → OverRoom e c
+  unfolding expressions-over states-over arcs-over
+  over-found q =
+      ⊎-elim (λ h. ⊎-elim (λ l. of-expressions (ltb-true _ _ l)) (λ l. of-states (ltb-true _ _ l)) (or-true expressions-over states-over h))
+      (λ l. of-arcs (ltb-true _ _ l)) (or-true (expressions-over || states-over) arcs-over (sym three ∙ q))
+
+  pub over-passes : OverRoom e c → over-room e c ≡ true
+  unfolding expressions-over states-over arcs-over
+  over-passes (of-expressions l) =
+      three ∙ or-of (expressions-over || states-over) arcs-over (inl (or-of expressions-over states-over (inl (lt-ltb _ _ l))))
+  over-passes (of-states l) =
+      three ∙ or-of (expressions-over || states-over) arcs-over (inl (or-of expressions-over states-over (inr (lt-ltb _ _ l))))
+  over-passes (of-arcs l) = three ∙ or-of (expressions-over || states-over) arcs-over (inr (lt-ltb _ _ l))
+
+-- ---- All refusals
+
+module _ (g : Table) (c : Lent) where
+  ordered : Bool → Refusal → Bool → Refusal
+  ordered even r over = cond even (or-else r (cond over (refusal room-small 0) success)) (refusal columns-differ 0)
+
+  pub builder-caused : BuilderCause g c (build-refusal g c)
+  unfolding build-refusal ordered
+  builder-caused = go (even c) (over-room (tree g) c) refl refl (table-caused g)
+    where
+      fits : (over : Bool) → EvenLent c → over-room (tree g) c ≡ over → WellFormed g → BuilderCause g c (cond over (refusal room-small 0) success)
+      fits true v o w = room v w (over-found (tree g) c o)
+      fits false v o w = none v w (λ l. false≢true (sym o ∙ over-passes (tree g) c l))
+
+      go : (b over : Bool) {r : Refusal} → even c ≡ b → over-room (tree g) c ≡ over → TableCause g r → BuilderCause g c (ordered b r over)
+      go false over q o t = differ (λ v. false≢true (sym q ∙ even-passes c v))
+      go true over {r} q o t = decide (ℕ-discrete (r .number) 0)
+        where
+          decide : Dec (r .number ≡ 0) → BuilderCause g c (or-else r (cond over (refusal room-small 0) success))
+          decide (yes z) = let (w, s) = table-clear g t z in rw s (fits over (even-passed c q) o w)
+          decide (no n) = rw (stands r (cond over (refusal room-small 0) success) n) (table (even-passed c q) t n)
+
+  due : {b over : Bool} {r : Refusal} → even c ≡ b → table-refusal g ≡ r → over-room (tree g) c ≡ over → build-refusal g c ≡ ordered b r over
+  unfolding build-refusal ordered
+  due q t o = λ i. ordered (q i) (t i) (o i)
+
+  pub builder-due : {r : Refusal} → BuilderCause g c r → build-refusal g c ≡ r
+  unfolding ordered
+  builder-due (differ n) = due (false-of (even c) (λ q. n (even-passed c q))) refl refl
+  builder-due (table {r} v t n) = due (even-passes c v) (table-due g t) refl ∙ stands r _ n
+  builder-due (room v w o) = due (even-passes c v) (table-due g (Tables.none w)) (over-passes (tree g) c o)
+  builder-due (none v w n) = due (even-passes c v) (table-due g (Tables.none w)) (false-of _ (λ q. n (over-found (tree g) c q)))
+
+  pub builder-numbered : {r : Refusal} → BuilderCause g c r → r .number ≤ 9
+  builder-numbered (differ n) = omega arith
+  builder-numbered (table v t n) = let l = table-numbered g t in omega arith
+  builder-numbered (room v w o) = omega arith
+  builder-numbered (none v w n) = omega arith
+
+  pub builder-clear : {r : Refusal} → BuilderCause g c r → r .number ≡ 0 → r ≡ success
+  builder-clear (differ n) z = absurd (omega arith)
+  builder-clear (table v t n) z = absurd (n z)
+  builder-clear (room v w o) z = absurd (omega arith)
+  builder-clear (none v w n) z = refl
+
+-- The answer's refusal is the one that is due.
+pub builder-answers : {g : Table} {c : Lent} {answer : Counts} {c′ : Lent} → Built g c answer c′ → answer .refusal ≡ build-refusal g c
+builder-answers {g} {c} h = ap (λ (a : Counts). a .refusal) (h .answers) ∙ go (ℕ-discrete ((build-refusal g c) .number) 0)
+  where
+    go : Dec ((build-refusal g c) .number ≡ 0) → (counts g c) .refusal ≡ build-refusal g c
+    go (yes z) = ap (λ (a : Counts). a .refusal) (counts-built g c z) ∙ sym (builder-clear g c (builder-caused g c) z)
+    go (no n) = ap (λ (a : Counts). a .refusal) (counts-refused g c n)
+
+pub builder-number : {g : Table} {c : Lent} {answer : Counts} {c′ : Lent} → Built g c answer c′ → answer .refusal .number ≡ (build-refusal g c) .number
+builder-number h = ap (λ (r : Refusal). r .number) (builder-answers h)
+
+-- ---- The demand
+
+pub builder-meets : {g : Table} {c : Lent} {answer : Counts} {c′ : Lent} → Built g c answer c′ → BuilderMeets g c answer c′
+builder-meets {g} {c} {answer} h = record {
+  exact = exactly (BuilderCause g c) (builder-answers h) (builder-caused g c) (λ r. builder-due g c);
+  numbered = rw (builder-answers h) (le-trans (builder-numbered g c (builder-caused g c)) (omega arith));
+  counts = λ n. let e = h .answers ∙ counts-refused g c (again n) in
+      (ap (λ (a : Counts). a .states) e, ap (λ (a : Counts). a .expressions) e, ap (λ (a : Counts). a .arcs) e);
+  columns = λ n. h .refused (again n);
+}
+  where
+    again : ¬ (answer .refusal .number ≡ 0) → ¬ ((build-refusal g c) .number ≡ 0)
+    again n z = n (builder-number h ∙ z)

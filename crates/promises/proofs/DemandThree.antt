@@ -1,0 +1,72 @@
+-- The letter's third demand: "Take any well-formed expression of n entries, m of them letters counted with repeats, with m at most 10 and n
+-- times 2^m, plus 1, at most 65,535. It needs at most 2^m states, at most n times 2^m plus 1 expressions, and at most m times 4^m arcs. So a
+-- site whose tables have these sizes is never refused for room."
+use Prim.Native.Nat.{ℕ, _+_, _*_, _^_, _≤_}
+use native.Mathlib.Nat.{le-trans, mul-le-mul, pow-le-pow-right}
+use native.Mathlib.Omega.{arith}
+use mathlib.Core.Path.{_≡_, _∙_, subst}
+use lib.ListN.{length}
+use lib.Dec.{eqb}
+use Rattle.theory.specs.Refusal.{success}
+use Rattle.theory.specs.Expression.{entries, letters}
+use Rattle.theory.specs.Table.{Table, row, size, tree, table-refusal}
+use Rattle.theory.specs.Automaton.{states, expressions, arcs}
+use Rattle.theory.specs.Build.{Lent, Counts, Built}
+use Rattle.theory.specs.Record.{count-below}
+use Rattle.theory.proofs.WellFormed.{WellFormed, well-formed, tree-entries, tree-letters}
+use Rattle.theory.proofs.Bounds.{states-bound, expressions-bound, arcs-bound}
+use Rattle.promises.specs.Builder.{EvenLent, OverRoom, of-expressions, of-states, of-arcs, none}
+use Rattle.promises.proofs.Causes.Builder.{builder-due, builder-answers}
+
+-- The letter's m: the entries of kind 2.
+abbrev pub letter-entries : Table → ℕ
+letter-entries g = count-below (size g) (λ i. eqb ((row g i) .kind) 2)
+
+-- What the automaton of a table's tree needs at most.
+pub record Needs (g : Table) (n m : ℕ) : Type 0 where
+  pub states : length (states (tree g)) ≤ 2 ^ m
+  pub expressions : length (expressions (tree g)) ≤ n * 2 ^ m + 1
+  pub arcs : length (arcs (tree g)) ≤ m * 4 ^ m
+
+-- Tables of these sizes, sized before the expression is known.
+pub record Roomy (c : Lent) (n m : ℕ) : Type 0 where
+  pub even : EvenLent c
+  pub expressions : n * 2 ^ m + 1 ≤ length (c .rows .kind)
+  pub states : 2 ^ m ≤ length (c .expression)
+  pub arcs : m * 4 ^ m ≤ length (c .from)
+
+pub record DemandThree : Type 0 where
+  pub needs : (g : Table) → (table-refusal g) .number ≡ 0 → Needs g (size g) (letter-entries g)
+  pub builds : {g : Table} {c : Lent} {answer : Counts} {c′ : Lent} → (table-refusal g) .number ≡ 0
+      → letter-entries g ≤ 10 → size g * 2 ^ letter-entries g + 1 ≤ 65535 → Roomy c (size g) (letter-entries g)
+      → Built g c answer c′ → answer .refusal ≡ success
+
+needed : (g : Table) → (table-refusal g) .number ≡ 0 → Needs g (size g) (letter-entries g)
+needed g z = subst (λ (m : ℕ). Needs g (size g) m) (tree-letters w) (subst (λ (n : ℕ). Needs g n (length (letters (tree g)))) (tree-entries w) bounds)
+  where
+    w : WellFormed g
+    w = well-formed g z
+
+    bounds : Needs g (entries (tree g)) (length (letters (tree g)))
+    bounds = record { states = states-bound (tree g); expressions = expressions-bound (tree g); arcs = arcs-bound (tree g) }
+
+-- 2^10 and 10 times 4^10 are below the caps.
+states-cap : (m : ℕ) → m ≤ 10 → 2 ^ m ≤ 65535
+states-cap m l = le-trans (pow-le-pow-right (omega arith) l) (omega arith)
+
+arcs-cap : (m : ℕ) → m ≤ 10 → m * 4 ^ m ≤ 16777216
+arcs-cap m l = le-trans (mul-le-mul l (pow-le-pow-right (omega arith) l)) (omega arith)
+
+built : {g : Table} {c : Lent} {answer : Counts} {c′ : Lent} → (table-refusal g) .number ≡ 0
+    → letter-entries g ≤ 10 → size g * 2 ^ letter-entries g + 1 ≤ 65535 → Roomy c (size g) (letter-entries g)
+    → Built g c answer c′ → answer .refusal ≡ success
+built {g} {c} {answer} z few small r h =
+    builder-answers h ∙ builder-due g c (none (r .even) (well-formed g z) fits)
+  where
+    fits : ¬ OverRoom (tree g) c
+    fits (of-expressions l) = let n = needed g z .expressions in let b = r .expressions in omega arith
+    fits (of-states l) = let n = needed g z .states in let b = r .states in let k = states-cap (letter-entries g) few in omega arith
+    fits (of-arcs l) = let n = needed g z .arcs in let b = r .arcs in let k = arcs-cap (letter-entries g) few in omega arith
+
+pub demand-three : DemandThree
+demand-three = record { needs = needed; builds = built }

@@ -1,0 +1,40 @@
+-- Demand 1 at `builder::build`: the cause of each refusal, in the order of 01's table, and what a call is held to.
+use Prim.Native.Nat.{_≤_, _<_}
+use mathlib.Core.Path.{_≡_}
+use mathlib.Core.Logic.{_↔_}
+use lib.ListN.{length}
+use Rattle.theory.specs.Expression.{Expression}
+use Rattle.theory.specs.Refusal.{Refusal, refusal, success, columns-differ, room-small}
+use Rattle.theory.specs.Table.{Table, tree}
+use Rattle.theory.specs.Automaton.{states, arcs, expressions}
+use Rattle.theory.specs.Build.{Lent, Counts, Cleared, expression-room, state-room, arc-room}
+use Rattle.theory.proofs.TableRefusal.{SameLengths}
+use Rattle.theory.proofs.WellFormed.{WellFormed}
+use Rattle.promises.specs.Table.{TableCause}
+
+-- The columns of each lent table are equally long.
+pub record EvenLent (c : Lent) : Type 0 where
+  pub rows : SameLengths (c .rows)
+  pub states : length (c .accepting) ≡ length (c .expression)
+  pub letter : length (c .letter) ≡ length (c .from)
+  pub to : length (c .to) ≡ length (c .from)
+
+-- 01: "a need exceeds its room".
+pub data OverRoom (e : Expression) (c : Lent) : Type 0 where
+  of-expressions : expression-room c < length (expressions e) → OverRoom e c
+  of-states : state-room c < length (states e) → OverRoom e c
+  of-arcs : arc-room c < length (arcs e) → OverRoom e c
+
+-- `BuilderCause g c r`: there is cause for the refusal r.
+pub data BuilderCause (g : Table) (c : Lent) : Refusal → Type 0 where
+  differ : ¬ EvenLent c → BuilderCause g c (refusal columns-differ 0)
+  table : {r : Refusal} → EvenLent c → TableCause g r → ¬ (r .number ≡ 0) → BuilderCause g c r
+  room : EvenLent c → WellFormed g → OverRoom (tree g) c → BuilderCause g c (refusal room-small 0)
+  none : EvenLent c → WellFormed g → ¬ OverRoom (tree g) c → BuilderCause g c success
+
+-- What demand 1 asks of a call: a refusal is given exactly where there is cause for it, and then all counts and columns are zero.
+pub record BuilderMeets (g : Table) (c : Lent) (answer : Counts) (c′ : Lent) : Type 0 where
+  pub exact : (r : Refusal) → (answer .refusal ≡ r) ↔ BuilderCause g c r
+  pub numbered : answer .refusal .number ≤ 15
+  pub counts : ¬ (answer .refusal .number ≡ 0) → (answer .states ≡ 0) × (answer .expressions ≡ 0) × (answer .arcs ≡ 0)
+  pub columns : ¬ (answer .refusal .number ≡ 0) → Cleared c c′

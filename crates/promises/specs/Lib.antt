@@ -1,0 +1,5 @@
+pub mod Reader
+pub mod Table
+pub mod Builder
+pub mod Matcher
+pub mod Examples

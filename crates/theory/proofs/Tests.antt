@@ -1,0 +1,54 @@
+-- Boolean tests that fail or pass: which part of a conjunction, of a disjunction, of a test over the numbers below n. Assumes nothing.
+use Prim.Native.Nat.{ℕ, zero, suc, _<_}
+use native.Mathlib.Nat.{le-refl, le-step}
+use mathlib.Core.Path.{_≡_, refl, sym}
+use mathlib.Core.Logic.{_⊎_, inl, inr}
+use mathlib.Core.Bool.{Bool, true, false, _&&_, _||_, false≢true}
+use Rattle.theory.specs.Record.{all-below}
+
+pub and-left : (a b : Bool) → (a && b) ≡ true → a ≡ true
+and-left true b e = refl
+and-left false b e = e
+
+pub and-right : (a b : Bool) → (a && b) ≡ true → b ≡ true
+and-right true b e = e
+and-right false b e = absurd (false≢true e)
+
+pub and-false : (a b : Bool) → (a && b) ≡ false → (a ≡ false) ⊎ (b ≡ false)
+and-false true b e = inr e
+and-false false b e = inl refl
+
+pub or-true : (a b : Bool) → (a || b) ≡ true → (a ≡ true) ⊎ (b ≡ true)
+or-true true b e = inl refl
+or-true false b e = inr e
+
+pub or-of : (a b : Bool) → (a ≡ true) ⊎ (b ≡ true) → (a || b) ≡ true
+or-of true b h = refl
+or-of false b (inl e) = absurd (false≢true e)
+or-of false b (inr e) = e
+
+pub or-left : (a b : Bool) → (a || b) ≡ false → a ≡ false
+or-left true b e = e
+or-left false b e = refl
+
+pub or-right : (a b : Bool) → (a || b) ≡ false → b ≡ false
+or-right true b e = absurd (false≢true (sym e))
+or-right false b e = e
+
+pub false-of : (b : Bool) → (b ≡ true → ⊥) → b ≡ false
+false-of true n = absurd (n refl)
+false-of false n = refl
+
+pub true-of : (b : Bool) → (b ≡ false → ⊥) → b ≡ true
+true-of true n = refl
+true-of false n = absurd (n refl)
+
+pub all-false : (n : ℕ) (p : ℕ → Bool) → all-below n p ≡ false → (k : ℕ) × (k < n) × (p k ≡ false)
+unfolding all-below
+all-false zero p e = absurd (false≢true (sym e))
+all-false (suc n) p e = go (all-below n p) refl e (all-false n p)
+  where
+    go : (b : Bool) → all-below n p ≡ b → (b && p n) ≡ false → (all-below n p ≡ false → (k : ℕ) × (k < n) × (p k ≡ false))
+        → (k : ℕ) × (k < suc n) × (p k ≡ false)
+    go true q h ih = (n, le-refl (suc n), h)
+    go false q h ih = let (k, l, f) = ih q in (k, le-step l, f)
