@@ -26,6 +26,7 @@ pub mod Tests
 pub mod FirstFound
 pub mod Due
 pub mod Answers
+pub mod Room
 pub mod Filled
 pub mod Needs
 pub mod Accepts

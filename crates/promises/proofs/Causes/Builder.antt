@@ -16,6 +16,7 @@ use Rattle.theory.specs.Automaton.{states, arcs, expressions}
 use Rattle.theory.specs.Build.{Lent, Counts, counts, Built, even, over-room, build-refusal, expression-room, state-room, arc-room}
 use Rattle.theory.proofs.Tests.{and-left, and-right, or-true, or-of, false-of}
 use Rattle.theory.proofs.Answers.{counts-built, counts-refused}
+use Rattle.theory.proofs.Room.{expressions-over, states-over, arcs-over, over-by-needs, ordered, refusal-by}
 use Rattle.theory.proofs.WellFormed.{WellFormed}
 use Rattle.promises.specs.Table as Tables
 use Rattle.promises.specs.Table.{TableCause}
@@ -51,42 +52,25 @@ module _ (c : Lent) where
 -- ---- Refusal 9
 
 module _ (e : Expression) (c : Lent) where
-  expressions-over : Bool
-  expressions-over = ltb (expression-room c) (length (expressions e))
-
-  states-over : Bool
-  states-over = ltb (state-room c) (length (states e))
-
-  arcs-over : Bool
-  arcs-over = ltb (arc-room c) (length (arcs e))
-
-  -- The three needs, with nothing of the automaton opened.
-  three : over-room e c ≡ (expressions-over || states-over || arcs-over)
-  unfolding over-room expressions-over states-over arcs-over
-  three = refl
-
   pub over-found : over-room e c ≡ true → OverRoom e c
   unfolding expressions-over states-over arcs-over
   over-found q =
-      ⊎-elim (λ h. ⊎-elim (λ l. of-expressions (ltb-true _ _ l)) (λ l. of-states (ltb-true _ _ l)) (or-true expressions-over states-over h))
-      (λ l. of-arcs (ltb-true _ _ l)) (or-true (expressions-over || states-over) arcs-over (sym three ∙ q))
+      ⊎-elim (λ h. ⊎-elim (λ l. of-expressions (ltb-true _ _ l)) (λ l. of-states (ltb-true _ _ l)) (or-true (expressions-over e c) (states-over e c) h))
+      (λ l. of-arcs (ltb-true _ _ l)) (or-true ((expressions-over e c) || (states-over e c)) (arcs-over e c) (sym (over-by-needs e c) ∙ q))
 
   pub over-passes : OverRoom e c → over-room e c ≡ true
   unfolding expressions-over states-over arcs-over
   over-passes (of-expressions l) =
-      three ∙ or-of (expressions-over || states-over) arcs-over (inl (or-of expressions-over states-over (inl (lt-ltb _ _ l))))
+      over-by-needs e c ∙ or-of ((expressions-over e c) || (states-over e c)) (arcs-over e c) (inl (or-of (expressions-over e c) (states-over e c) (inl (lt-ltb _ _ l))))
   over-passes (of-states l) =
-      three ∙ or-of (expressions-over || states-over) arcs-over (inl (or-of expressions-over states-over (inr (lt-ltb _ _ l))))
-  over-passes (of-arcs l) = three ∙ or-of (expressions-over || states-over) arcs-over (inr (lt-ltb _ _ l))
+      over-by-needs e c ∙ or-of ((expressions-over e c) || (states-over e c)) (arcs-over e c) (inl (or-of (expressions-over e c) (states-over e c) (inr (lt-ltb _ _ l))))
+  over-passes (of-arcs l) = over-by-needs e c ∙ or-of ((expressions-over e c) || (states-over e c)) (arcs-over e c) (inr (lt-ltb _ _ l))
 
 -- ---- All refusals
 
 module _ (g : Table) (c : Lent) where
-  ordered : Bool → Refusal → Bool → Refusal
-  ordered even r over = cond even (or-else r (cond over (refusal room-small 0) success)) (refusal columns-differ 0)
-
   pub builder-caused : BuilderCause g c (build-refusal g c)
-  unfolding build-refusal ordered
+  unfolding build-refusal
   builder-caused = go (even c) (over-room (tree g) c) refl refl (table-caused g)
     where
       fits : (over : Bool) → EvenLent c → over-room (tree g) c ≡ over → WellFormed g → BuilderCause g c (cond over (refusal room-small 0) success)
@@ -101,16 +85,11 @@ module _ (g : Table) (c : Lent) where
           decide (yes z) = let (w, s) = table-clear g t z in rw s (fits over (even-passed c q) o w)
           decide (no n) = rw (stands r (cond over (refusal room-small 0) success) n) (table (even-passed c q) t n)
 
-  due : {b over : Bool} {r : Refusal} → even c ≡ b → table-refusal g ≡ r → over-room (tree g) c ≡ over → build-refusal g c ≡ ordered b r over
-  unfolding build-refusal ordered
-  due q t o = λ i. ordered (q i) (t i) (o i)
-
   pub builder-due : {r : Refusal} → BuilderCause g c r → build-refusal g c ≡ r
-  unfolding ordered
-  builder-due (differ n) = due (false-of (even c) (λ q. n (even-passed c q))) refl refl
-  builder-due (table {r} v t n) = due (even-passes c v) (table-due g t) refl ∙ stands r _ n
-  builder-due (room v w o) = due (even-passes c v) (table-due g (Tables.none w)) (over-passes (tree g) c o)
-  builder-due (none v w n) = due (even-passes c v) (table-due g (Tables.none w)) (false-of _ (λ q. n (over-found (tree g) c q)))
+  builder-due (differ n) = refusal-by g c (false-of (even c) (λ q. n (even-passed c q))) refl refl
+  builder-due (table {r} v t n) = refusal-by g c (even-passes c v) (table-due g t) refl ∙ stands r _ n
+  builder-due (room v w o) = refusal-by g c (even-passes c v) (table-due g (Tables.none w)) (over-passes (tree g) c o)
+  builder-due (none v w n) = refusal-by g c (even-passes c v) (table-due g (Tables.none w)) (false-of _ (λ q. n (over-found (tree g) c q)))
 
   pub builder-numbered : {r : Refusal} → BuilderCause g c r → r .number ≤ 9
   builder-numbered (differ n) = omega arith
