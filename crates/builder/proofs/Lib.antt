@@ -6,3 +6,4 @@ pub mod Walking
 pub mod Lengths
 pub mod Leaving
 pub mod Filling
+pub mod Finishing

@@ -5,7 +5,8 @@ use mathlib.Core.Path.{_∙_}
 use Rattle.theory.specs.Table.{table, tree}
 use Rattle.theory.specs.Build.{lent}
 use Rattle.theory.proofs.WellFormed.{well-formed}
-use Rattle.builder.proofs.Lengths.{SameLengths, lengths-none}
+use Rattle.builder.specs.Complete.{SameLengths}
+use Rattle.builder.proofs.Lengths.{lengths-none}
 use Rattle.builder.proofs.Leaving.{reaches-as}
 use Rattle.builder.proofs.Filling.{AtState, state-begins, begun-as, state-ready, state-leaves, state-knows, state-next, state-full, state-last, gathered-knows}
 use Rattle.builder.proofs.states.fill.Statement.{statement}

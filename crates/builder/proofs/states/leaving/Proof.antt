@@ -5,7 +5,8 @@ use mathlib.Core.Path.{_∙_}
 use Rattle.theory.specs.Table.{table}
 use Rattle.theory.specs.Build.{lent}
 use Rattle.builder.specs.Progress.{root}
-use Rattle.builder.proofs.Lengths.{SameLengths, lengths-none}
+use Rattle.builder.specs.Complete.{SameLengths}
+use Rattle.builder.proofs.Lengths.{lengths-none}
 use Rattle.builder.proofs.Leaving.{AtLetter, letter-first, letter-ready, letter-leaves, letter-next, letter-over, letter-full, reaches-as, next-as}
 use Rattle.builder.proofs.states.leaving.Statement.{statement}
 use Rattle.builder.proofs.states.leaving.Tie as tie

@@ -7,7 +7,8 @@ use Rattle.theory.specs.Table.{table, tree-at}
 use Rattle.theory.specs.Build.{lent}
 use Rattle.derive.specs.Walk.{to-come}
 use Rattle.builder.specs.Progress.{root}
-use Rattle.builder.proofs.Lengths.{SameLengths, lengths-none}
+use Rattle.builder.specs.Complete.{SameLengths}
+use Rattle.builder.proofs.Lengths.{lengths-none}
 use Rattle.builder.proofs.Walking.{AtMember, member-first, found-ready, found-meets, member-full, member-next, member-less, member-end, member-short, gives-as, met-as}
 use Rattle.builder.proofs.states.members.Statement.{statement}
 use Rattle.builder.proofs.states.members.Tie as tie
