@@ -15,7 +15,8 @@ use Rattle.theory.specs.Build.{Lent, Counts, Built}
 use Rattle.theory.specs.Record.{count-below}
 use Rattle.theory.proofs.WellFormed.{WellFormed, well-formed, tree-entries, tree-letters}
 use Rattle.theory.proofs.Bounds.{states-bound, expressions-bound, arcs-bound}
-use Rattle.promises.specs.Builder.{EvenLent, OverRoom, of-expressions, of-states, of-arcs, none}
+use Rattle.theory.proofs.Room.{EvenLent, OverRoom, of-expressions, of-states, of-arcs}
+use Rattle.promises.specs.Builder.{none}
 use Rattle.promises.proofs.Causes.Builder.{builder-due, builder-answers}
 
 -- The letter's m: the entries of kind 2.

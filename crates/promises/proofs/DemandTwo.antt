@@ -17,7 +17,7 @@ use Rattle.theory.specs.Record.{words}
 use Rattle.theory.specs.Judge.{Judgement, Judged}
 use Rattle.theory.proofs.Needs.{states-different, arcs-different, expressions-different}
 use Rattle.theory.proofs.WellFormed.{WellFormed}
-use Rattle.promises.specs.Builder.{EvenLent, OverRoom}
+use Rattle.theory.proofs.Room.{EvenLent, OverRoom}
 use Rattle.promises.specs.Matcher.{after-build}
 use Rattle.promises.proofs.Handing.{accepted-exactly, refused-exactly}
 

@@ -17,7 +17,8 @@ use Rattle.theory.specs.Judge.{Judgement, Judged, judgement, given}
 use Rattle.theory.proofs.WellFormed.{WellFormed, tree-lettered}
 use Rattle.theory.proofs.Answers.{counts-built, judgement-given}
 use Rattle.theory.proofs.Filled.{filled-length, filled-up, filled-well-formed, filled-language}
-use Rattle.promises.specs.Builder.{EvenLent, OverRoom, of-states, of-arcs, BuilderCause, differ, table, room, none}
+use Rattle.theory.proofs.Room.{EvenLent, OverRoom, of-states, of-arcs}
+use Rattle.promises.specs.Builder.{BuilderCause, differ, table, room, none}
 use Rattle.promises.specs.Matcher as Matching
 use Rattle.promises.specs.Matcher.{after-build}
 use Rattle.promises.proofs.Causes.Builder.{builder-caused, builder-due, builder-number}

@@ -16,7 +16,8 @@ use Rattle.theory.specs.Read.{Read, Entered, entered, Due, differ, long, short}
 use Rattle.theory.specs.Build.{Lent, Counts, Built}
 use Rattle.theory.proofs.Due.{left-by, leaves}
 use Rattle.theory.proofs.Rows.{read-fits, rows-length, rows-tree, rows-refused-never}
-use Rattle.promises.specs.Builder.{EvenLent, BuilderCause, room, none}
+use Rattle.theory.proofs.Room.{EvenLent}
+use Rattle.promises.specs.Builder.{BuilderCause, room, none}
 use Rattle.promises.specs.Builder as Building
 use Rattle.promises.proofs.Causes.Table.{table-due}
 use Rattle.promises.proofs.Causes.Builder.{builder-caused, builder-answers}

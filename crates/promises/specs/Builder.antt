@@ -10,20 +10,8 @@ use Rattle.theory.specs.Automaton.{states, arcs, expressions}
 use Rattle.theory.specs.Build.{Lent, Counts, Cleared, expression-room, state-room, arc-room}
 use Rattle.theory.proofs.TableRefusal.{SameLengths}
 use Rattle.theory.proofs.WellFormed.{WellFormed}
+use Rattle.theory.proofs.Room.{EvenLent, OverRoom}
 use Rattle.promises.specs.Table.{TableCause}
-
--- The columns of each lent table are equally long.
-pub record EvenLent (c : Lent) : Type 0 where
-  pub rows : SameLengths (c .rows)
-  pub states : length (c .accepting) ≡ length (c .expression)
-  pub letter : length (c .letter) ≡ length (c .from)
-  pub to : length (c .to) ≡ length (c .from)
-
--- 01: "a need exceeds its room".
-pub data OverRoom (e : Expression) (c : Lent) : Type 0 where
-  of-expressions : expression-room c < length (expressions e) → OverRoom e c
-  of-states : state-room c < length (states e) → OverRoom e c
-  of-arcs : arc-room c < length (arcs e) → OverRoom e c
 
 -- `BuilderCause g c r`: there is cause for the refusal r.
 pub data BuilderCause (g : Table) (c : Lent) : Refusal → Type 0 where

@@ -2,7 +2,7 @@
 use Prim.Native.Nat.{ℕ, _+_, _-_, _≤_, _<_}
 use native.Mathlib.Nat.{sub-zero}
 use native.Mathlib.Omega.{arith}
-use mathlib.Core.Path.{_≡_, refl, sym, ap, _∙_}
+use mathlib.Core.Path.{_≡_, refl, sym, ap, _∙_, subst}
 use mathlib.Core.Bool.{Bool, cond}
 use borrow.Author.Tests.{eq-eqb, ne-eqb}
 use Rattle.theory.specs.Refusal.{Refusal, refusal, or-else}
@@ -40,13 +40,19 @@ module _ (fault : ℕ → ℕ) (n : ℕ) where
 refused-not-fine : {number place : ℕ} → Refused number place ≡ Fine → ⊥
 refused-not-fine e = let z : _≡_ {A = ℕ} 0 1 = cc in omega arith
 
+pub scanned-for : {r : Checked} {wanted wanted′ : Refusal} → wanted ≡ wanted′ → Scanned r wanted → Scanned r wanted′
+scanned-for {r} e s = subst (Scanned r) e s
+
+pub scanned-refused : {wanted : Refusal} (number place : ℕ) → (number ≡ 0 → ⊥) → wanted ≡ refusal number place → Scanned (Refused number place) wanted
+scanned-refused number place n e = record { is = sym e; fine = λ z. absurd (n (sym (ap (λ (w : Refusal). w .number) e) ∙ z)) }
+
 pub first-stands : {r : Checked} {wanted : Refusal} (other : Refusal) (number place : ℕ) → Scanned r wanted → r ≡ Refused number place
-    → refusal number place ≡ or-else wanted other
+    → Scanned (Refused number place) (or-else wanted other)
 first-stands {r} {wanted} other number place s e =
     let n = ne-eqb (wanted .number) 0 (λ z. refused-not-fine (sym e ∙ s .fine z)) in
-    sym (ap refusal-of e) ∙ s .is ∙ sym (ap (λ (b : Bool). cond b other wanted) n)
+    scanned-for (sym (ap (λ (b : Bool). cond b other wanted) n)) (subst (λ x. Scanned x wanted) e s)
 
-pub second-stands : {r s : Checked} {wanted other : Refusal} → Scanned r wanted → r ≡ Fine → Scanned s other → refusal-of s ≡ or-else wanted other
+pub second-stands : {r s : Checked} {wanted other : Refusal} → Scanned r wanted → r ≡ Fine → Scanned s other → Scanned s (or-else wanted other)
 second-stands {r} {s} {wanted} {other} a e b =
     let z : wanted .number ≡ 0 = ap (λ (w : Refusal). w .number) (sym (a .is) ∙ ap refusal-of e) in
-    b .is ∙ sym (ap (λ (d : Bool). cond d other wanted) (eq-eqb (wanted .number) 0 z))
+    scanned-for (sym (ap (λ (d : Bool). cond d other wanted) (eq-eqb (wanted .number) 0 z))) b

@@ -3,9 +3,8 @@
 mod entry;
 mod naming;
 
-ghost use mathlib.Core.Path.{_≡_};
 ghost use Rattle.theory.specs.Table.{table, table-refusal};
-ghost use Rattle.table.specs.Checked.{refusal-of};
+ghost use Rattle.table.specs.Checked.{Scanned};
 
 pub enum Checked {
     Fine,
@@ -13,7 +12,7 @@ pub enum Checked {
 }
 
 pub fn check(kind: &[u8], left: &[u16], right: &[u16]) -> Checked
-    ensures { λ r. ⌜ refusal-of r ≡ table-refusal (table (now (kind .entry)) (now (left .entry)) (now (right .entry))) ⌝ }
+    ensures { λ r. ⌜ Scanned r (table-refusal (table (now (kind .entry)) (now (left .entry)) (now (right .entry)))) ⌝ }
 {
     if left.len() != kind.len() || right.len() != kind.len() {
         return Checked::Refused {

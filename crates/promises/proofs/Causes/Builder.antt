@@ -16,55 +16,13 @@ use Rattle.theory.specs.Automaton.{states, arcs, expressions}
 use Rattle.theory.specs.Build.{Lent, Counts, counts, Built, even, over-room, build-refusal, expression-room, state-room, arc-room}
 use Rattle.theory.proofs.Tests.{and-left, and-right, or-true, or-of, false-of}
 use Rattle.theory.proofs.Answers.{counts-built, counts-refused}
-use Rattle.theory.proofs.Room.{expressions-over, states-over, arcs-over, over-by-needs, ordered, refusal-by}
 use Rattle.theory.proofs.WellFormed.{WellFormed}
+use Rattle.theory.proofs.Room.{EvenLent, OverRoom, of-expressions, of-states, of-arcs, even-passed, even-passes, over-found, over-passes, ordered, refusal-by}
 use Rattle.promises.specs.Table as Tables
 use Rattle.promises.specs.Table.{TableCause}
-use Rattle.promises.specs.Builder.{EvenLent, OverRoom, of-expressions, of-states, of-arcs, BuilderCause, differ, table, room, none, BuilderMeets}
+use Rattle.promises.specs.Builder.{BuilderCause, differ, table, room, none, BuilderMeets}
 use Rattle.promises.proofs.Causes.Exactly.{exactly}
 use Rattle.promises.proofs.Causes.Table.{stands, table-clear, table-caused, table-due, table-numbered}
-
--- ---- Even columns
-
-module _ (c : Lent) where
-  pub even-passed : even c ≡ true → EvenLent c
-  unfolding even
-  even-passed e =
-      let l = eqb (length (c .rows .left)) (length (c .rows .kind)) in
-      let r = eqb (length (c .rows .right)) (length (c .rows .kind)) in
-      let a = eqb (length (c .accepting)) (length (c .expression)) in
-      let b = eqb (length (c .letter)) (length (c .from)) in
-      let lrab = and-left (l && r && a && b) _ e in
-      let lra = and-left (l && r && a) b lrab in
-      let lr = and-left (l && r) a lra in
-      record {
-        rows = (eqb-true _ _ (and-left l r lr), eqb-true _ _ (and-right l r lr));
-        states = eqb-true _ _ (and-right (l && r) a lra);
-        letter = eqb-true _ _ (and-right (l && r && a) b lrab);
-        to = eqb-true _ _ (and-right (l && r && a && b) _ e);
-      }
-
-  pub even-passes : EvenLent c → even c ≡ true
-  unfolding even
-  even-passes v =
-      rw (eq-eqb _ _ (v .rows .0), eq-eqb _ _ (v .rows .1), eq-eqb _ _ (v .states), eq-eqb _ _ (v .letter), eq-eqb _ _ (v .to))
-
--- ---- Refusal 9
-
-module _ (e : Expression) (c : Lent) where
-  pub over-found : over-room e c ≡ true → OverRoom e c
-  unfolding expressions-over states-over arcs-over
-  over-found q =
-      ⊎-elim (λ h. ⊎-elim (λ l. of-expressions (ltb-true _ _ l)) (λ l. of-states (ltb-true _ _ l)) (or-true (expressions-over e c) (states-over e c) h))
-      (λ l. of-arcs (ltb-true _ _ l)) (or-true ((expressions-over e c) || (states-over e c)) (arcs-over e c) (sym (over-by-needs e c) ∙ q))
-
-  pub over-passes : OverRoom e c → over-room e c ≡ true
-  unfolding expressions-over states-over arcs-over
-  over-passes (of-expressions l) =
-      over-by-needs e c ∙ or-of ((expressions-over e c) || (states-over e c)) (arcs-over e c) (inl (or-of (expressions-over e c) (states-over e c) (inl (lt-ltb _ _ l))))
-  over-passes (of-states l) =
-      over-by-needs e c ∙ or-of ((expressions-over e c) || (states-over e c)) (arcs-over e c) (inl (or-of (expressions-over e c) (states-over e c) (inr (lt-ltb _ _ l))))
-  over-passes (of-arcs l) = over-by-needs e c ∙ or-of ((expressions-over e c) || (states-over e c)) (arcs-over e c) (inr (lt-ltb _ _ l))
 
 -- ---- All refusals
 
