@@ -34,7 +34,7 @@ gathered-knows kind left right used h a l q m =
     let r = letters-entered (table kind left right) a m in
     true≢false
     (sym (some-at (length kind) (λ i. eqb (getD kind i 0) 2 && eqb (getD left i 0) a) (r .0) (r .1)
-      (ap₂ _&&_ (eq-eqb (getD kind (r .0) 0) 2 (r .2)) (eq-eqb (getD left (r .0) 0) a (r .3))))
+    (ap₂ _&&_ (eq-eqb (getD kind (r .0) 0) 2 (r .2)) (eq-eqb (getD left (r .0) 0) a (r .3))))
     ∙ sym (h a l) ∙ q)
 
 -- All states below i have been left.
@@ -63,33 +63,36 @@ pub state-first : {e : Expression} {rooms k : Counts} {c : Lent} → Standing e 
 state-first {e} {rooms} {k} {c} h zf zl zt ri rs si ai ss as-small fi li ti =
     record {
       progress =
-        subst (λ ms. Progress e ms c k) (sym (nothing-before e))
-        (record {
-          rows = h .rows;
-          needed = h .needed;
-          state-count = h .one-state ∙ sym (ap length (one-so-far e));
-          named = subst (Names (c .rows) (k .rows) (c .expression)) (sym (one-so-far e)) (h .named);
-          accepting = h .flags ∙ ap (λ xs. filled (length (c .accepting)) (map (λ x. cond (empty-word x) 1 0) xs)) (sym (one-so-far e));
-          arc-count = h .no-arc;
-          from = zero-column (c .from) zf;
-          letter = zero-column (c .letter) zl;
-          to = zero-column (c .to) zt });
+          subst (λ ms. Progress e ms c k) (sym (nothing-before e))
+          (record {
+            rows = h .rows;
+            needed = h .needed;
+            state-count = h .one-state ∙ sym (ap length (one-so-far e));
+            named = subst (Names (c .rows) (k .rows) (c .expression)) (sym (one-so-far e)) (h .named);
+            accepting = h .flags ∙ ap (λ xs. filled (length (c .accepting)) (map (λ x. cond (empty-word x) 1 0) xs)) (sym (one-so-far e));
+            arc-count = h .no-arc;
+            from = zero-column (c .from) zf;
+            letter = zero-column (c .letter) zl;
+            to = zero-column (c .to) zt;
+          });
       roomy =
-        record {
-          rows-in = ri;
-          rows-small = rs;
-          states-in = si;
-          accepting-in = ai;
-          states-small = ss;
-          arcs-small = as-small;
-          from-in = fi;
-          letter-in = li;
-          to-in = ti;
-          rows-fit = h .rows-fit;
-          states-fit = omega (arith, h .one-state, h .state-room);
-          arcs-fit = omega (arith, h .no-arc) };
+          record {
+            rows-in = ri;
+            rows-small = rs;
+            states-in = si;
+            accepting-in = ai;
+            states-small = ss;
+            arcs-small = as-small;
+            from-in = fi;
+            letter-in = li;
+            to-in = ti;
+            rows-fit = h .rows-fit;
+            states-fit = omega (arith, h .one-state, h .state-room);
+            arcs-fit = omega (arith, h .no-arc);
+          };
       starts = record { rest = meetings e; goes-on = ap (λ ms. ms ++ meetings e) (sym (nothing-before e)) };
-      below = omega arith }
+      below = omega arith;
+    }
 
 -- From blank columns, of which `start` has changed those of rows and states.
 pub state-begins : {e : Expression} {rooms k : Counts} {t₀ t : Table} {x₀ x a₀ a from letter to : List ℕ} → Blank rooms (lent t₀ x₀ a₀ from letter to)
@@ -124,13 +127,14 @@ module _ {e : Expression} {i : ℕ} {rooms : Counts} {c : Lent} {k : Counts} (m 
       let next : before e i 255 ≡ before e (i + 1) 0 = before-state e i w ∙ ap (λ (n : ℕ). before e n 0) (sym (add-one i)) in
       let g = so-far-begins e (before e i 0) (by-letters i (getD (states e) i ∅) (ascending 1 255)) in
       let longer : before e i 0 ++ by-letters i (getD (states e) i ∅) (ascending 1 255) ≡ before e (i + 1) 0 =
-        ap (λ ms. ms ++ by-letters i (getD (states e) i ∅) (ascending 1 255)) (append-nil (by-states 0 (take i (states e)))) ∙ next in
+      ap (λ ms. ms ++ by-letters i (getD (states e) i ∅) (ascending 1 255)) (append-nil (by-states 0 (take i (states e)))) ∙ next in
       record {
         progress = p;
         roomy = r .goes .1;
         starts = subst (Starts e) next (starts-before e i 255 w (le-refl 255));
         below =
-          omega (arith, m .progress .state-count, p .state-count, ap (λ ms. length (so-far e ms)) longer, ap length (g .goes-on), length-append (so-far e (before e i 0)) (g .rest)) }
+            omega (arith, m .progress .state-count, p .state-count, ap (λ ms. length (so-far e ms)) longer, ap length (g .goes-on), length-append (so-far e (before e i 0)) (g .rest));
+      }
 
   pub state-full : {c′ : Lent} {done : List Meeting} → Reaches (root c) done rooms NoRoom c′ → Exceeds e rooms
   state-full r = subst (λ y. Exceeds y rooms) (root-is (m .progress)) (r .goes)

@@ -42,8 +42,8 @@ module _ (ts : List Expression) (held : (x z : Expression) → List·Memᴰ x ts
       subst (λ v. Goes z (row-tree v ts)) (sym q)
       (subst (Goes z) (sym (sign-tree s l r ts))
       (λ m.
-        ⊎-elim (λ k. ⊎-elim (child z l i _ e hl) (child z r i _ e hr) (List·Memᴰ·append-cases (parts (getD ts l ∅)) k)) (λ j. Memᴰ·append-right ts j)
-        (List·Memᴰ·append-cases (parts (getD ts l ∅) ++ parts (getD ts r ∅)) {t = binary s (getD ts l ∅) (getD ts r ∅) ∷ []} m)))
+      ⊎-elim (λ k. ⊎-elim (child z l i _ e hl) (child z r i _ e hr) (List·Memᴰ·append-cases (parts (getD ts l ∅)) k)) (λ j. Memᴰ·append-right ts j)
+      (List·Memᴰ·append-cases (parts (getD ts l ∅) ++ parts (getD ts r ∅)) {t = binary s (getD ts l ∅) (getD ts r ∅) ∷ []} m)))
   part-held z i w e (of-star l hl q) =
       subst (λ v. Goes z (row-tree v ts)) (sym q)
       (λ m. ⊎-elim (child z l i _ e hl) (λ j. Memᴰ·append-right ts j) (List·Memᴰ·append-cases (parts (getD ts l ∅)) {t = star (getD ts l ∅) ∷ []} m))
@@ -56,8 +56,8 @@ parts-held t (suc n) sound x z m p =
     let held = parts-held t n (λ i l. sound i (le-step l)) in
     ⊎-elim (λ k. Memᴰ·append-left _ (held x z k p))
     (λ k.
-      part-held (trees t n) held z n (row t n) (sym (trees-length t n)) (sound n (le-refl (suc n)))
-      (subst (λ y. List·Memᴰ z (parts y)) (List·Memᴰ·eq-of-singleton k) p))
+    part-held (trees t n) held z n (row t n) (sym (trees-length t n)) (sound n (le-refl (suc n)))
+    (subst (λ y. List·Memᴰ z (parts y)) (List·Memᴰ·eq-of-singleton k) p))
     (List·Memᴰ·append-cases (trees t n) m)
 
 -- ---- The rows are the expressions
@@ -67,11 +67,11 @@ unfolding expressions
 expressions-held e t n column r names z m =
     ⊎-elim (λ q. subst (λ y. List·Memᴰ y (trees t n)) (r .literal ∙ sym q) (to-trees t n 0 (r .some)))
     (λ k.
-      let (x, s, p) = flatMap-of parts (states e) k in
-      let i = place same x (states e) in
-      let l = place-below same x (states e) s in
-      let is : tree-at t (getD column i 0) ≡ x = names .named i l ∙ at-place same x (states e) ∅ s in
-      parts-held t n (r .sound) x z (subst (λ y. List·Memᴰ y (trees t n)) is (to-trees t n (getD column i 0) (names .within i l))) p)
+    let (x, s, p) = flatMap-of parts (states e) k in
+    let i = place same x (states e) in
+    let l = place-below same x (states e) s in
+    let is : tree-at t (getD column i 0) ≡ x = names .named i l ∙ at-place same x (states e) ∅ s in
+    parts-held t n (r .sound) x z (subst (λ y. List·Memᴰ y (trees t n)) is (to-trees t n (getD column i 0) (names .within i l))) p)
     (List·Memᴰ·cases-cons (distinct-of same (ε ∷ flatMap parts (states e)) z m))
 
 expressions-once : (e : Expression) → NoRepeats (expressions e)
@@ -113,8 +113,8 @@ module _ {e : Expression} {c : Lent} {k : Counts} (p : Progress e (meetings e) c
         right-length = h .right;
         expression-length = h .expression;
         rows =
-          subst (λ (n : ℕ). Holds (c .rows) n (expressions e)) all-rows
-          (record { sound = p .rows .sound; once = p .rows .once; all = held; only = p .needed; blank = p .rows .blank });
+            subst (λ (n : ℕ). Holds (c .rows) n (expressions e)) all-rows
+            (record { sound = p .rows .sound; once = p .rows .once; all = held; only = p .needed; blank = p .rows .blank });
         expression = subst (λ (n : ℕ). Names (c .rows) n (c .expression) (states e)) all-rows names;
         accepting = p .accepting ∙ ap₂ filled (h .accepting) (ap (map (λ x. cond (empty-word x) 1 0)) (states-met e));
         from = p .from ∙ ap₂ filled (h .from) (arc-column (λ (a : Arc). a .from));

@@ -41,7 +41,8 @@ letter-first {c} {rooms} {k} {i} h l =
       roomy = h .roomy;
       state = l .state;
       within = within;
-      high = omega arith }
+      high = omega arith;
+    }
 
 module _ {e : Expression} {i a : ℕ} {rooms : Counts} {c : Lent} {k : Counts} (m : AtLetter e i a rooms c k) (used : List Bool) (knows : Knows used e) where
   -- By letters that are not used nothing is met.
@@ -66,7 +67,8 @@ module _ {e : Expression} {i a : ℕ} {rooms : Counts} {c : Lent} {k : Counts} (
           state = m .state;
           low = (let above = next .0 in omega arith);
           high = next .1;
-          here = here .arc-count ∙ ap (λ y. length (before y i (b - 1))) (sym (root-is (m .progress))) }
+          here = here .arc-count ∙ ap (λ y. length (before y i (b - 1))) (sym (root-is (m .progress)));
+        }
 
     pub letter-next : {c′ : Lent} {k′ : Counts} → Reaches (root c) (before (root c) i b) rooms (On k′) c′ → AtLetter e i b rooms c′ k′
     letter-next {c′} {k′} r =
@@ -78,10 +80,18 @@ module _ {e : Expression} {i a : ℕ} {rooms : Counts} {c : Lent} {k : Counts} (
           progress = p;
           roomy = r .goes .1;
           state =
-            omega (arith, m .state, here .state-count, p .state-count, ap (λ ms. length (so-far e ms)) (ap (before e i) (sym low) ∙ before-letter e i (b - 1)),
-              ap length (g .goes-on), length-append (so-far e (before e i (b - 1))) (g .rest));
+              omega (
+                arith,
+                m .state,
+                here .state-count,
+                p .state-count,
+                ap (λ ms. length (so-far e ms)) (ap (before e i) (sym low) ∙ before-letter e i (b - 1)),
+                ap length (g .goes-on),
+                length-append (so-far e (before e i (b - 1))) (g .rest),
+              );
           within = m .within;
-          high = next .1 }
+          high = next .1;
+        }
 
   pub letter-over : IsNext (λ j. getD used j false) a Over → Progress e (before e (i + 1) 0) c k
   letter-over over =

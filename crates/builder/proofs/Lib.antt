@@ -7,3 +7,4 @@ pub mod Lengths
 pub mod Leaving
 pub mod Filling
 pub mod Finishing
+pub mod Owed

@@ -74,15 +74,17 @@ progress-grown {e} {done} {c} {k} {t} {n} p g within =
       needed = within;
       state-count = p .state-count;
       named =
-        record {
-          within = λ i l. lt-of-lt-of-le (p .named .within i l) (g .more);
-          named = λ i l. grown-tree g (p .named .within i l) ∙ p .named .named i l;
-          blank = p .named .blank };
+          record {
+            within = λ i l. lt-of-lt-of-le (p .named .within i l) (g .more);
+            named = λ i l. grown-tree g (p .named .within i l) ∙ p .named .named i l;
+            blank = p .named .blank;
+          };
       accepting = p .accepting;
       arc-count = p .arc-count;
       from = p .from;
       letter = p .letter;
-      to = p .to }
+      to = p .to;
+    }
 
 roomy-grown : {c : Lent} {rooms k : Counts} {t : Table} {n : ℕ} → Roomy c rooms k → Grown (c .rows) (k .rows) t n → n ≤ rooms .rows → length (t .kind) ≡ length (c .rows .kind)
     → Roomy (with-rows c t) rooms (with-count k n)
@@ -99,7 +101,8 @@ roomy-grown o g fits same-length =
       to-in = o .to-in;
       rows-fit = fits;
       states-fit = o .states-fit;
-      arcs-fit = o .arcs-fit }
+      arcs-fit = o .arcs-fit;
+    }
 
 -- ---- On the way along a list
 
@@ -139,7 +142,7 @@ member-first {c} {rooms} {k} {i} {a} h l =
     let s = starts-before e i (a - 1) within (omega (arith, l .high)) in
     let p = of-ready (before e i (a - 1)) h s (l .here) in
     let is : tree-at (c .rows) (getD (c .expression) i 0) ≡ getD (states e) i ∅ =
-      p₀ .named .named i many ∙ sym (ap (λ xs. getD xs i ∅) (b .goes-on) ∙ List·getD-append (so-far e (met-so-far c k)) (b .rest) ∅ i many) in
+    p₀ .named .named i many ∙ sym (ap (λ xs. getD xs i ∅) (b .goes-on) ∙ List·getD-append (so-far e (met-so-far c k)) (b .rest) ∅ i many) in
     record {
       met = [];
       rest = derivative a (getD (states e) i ∅);
@@ -153,7 +156,8 @@ member-first {c} {rooms} {k} {i} {a} h l =
       state = l .state;
       within = within;
       low = l .low;
-      high = l .high }
+      high = l .high;
+    }
 
 module _ {e : Expression} {i a r : ℕ} {rooms : Counts} {place : Place} {c : Lent} {k : Counts} (m : AtMember e i a r rooms place c k) where
   letter-is : suc (a - 1) ≡ a
@@ -170,7 +174,7 @@ module _ {e : Expression} {i a r : ℕ} {rooms : Counts} {place : Place} {c : Le
       let z = getD (states e) i ∅ in
       parts-needed e y
       (derived-states
-        (Derived.onward (states-derived e z (getD-member (states e) i ∅ (m .within))) (to-flatMap (λ b. derivative b z) (to-alphabet a (m .low) (m .high)) h)))
+      (Derived.onward (states-derived e z (getD-member (states e) i ∅ (m .within))) (to-flatMap (λ b. derivative b z) (to-alphabet a (m .low) (m .high)) h)))
 
   all-needed : (z : Expression) → Needed (c .rows) (k .rows) (derivative a (tree-at (c .rows) r)) z → List·Memᴰ z (expressions e)
   all-needed z = ⊎-elim (m .progress .needed z) (λ q. member-needed (q .0) (subst (List·Memᴰ (q .0)) list-is (q .1)) z (q .2))
@@ -197,7 +201,7 @@ module _ {e : Expression} {i a r : ℕ} {rooms : Counts} {place : Place} {c : Le
         ∙ ap (λ xs. before e i (a - 1) ++ xs) (map-append (meeting i a) (m .met) (tree-at t row ∷ []))
         ∙ sym (append-assoc (before e i (a - 1)) (map (meeting i a) (m .met)) (meeting i a (tree-at t row) ∷ [])))
         (starts-member e i (a - 1) (m .met ++ (tree-at t row ∷ [])) (next-of .0) (m .within) (omega (arith, letter-is, m .high))
-          (ap (λ (b : ℕ). derivative b (getD (states e) i ∅)) letter-is ∙ met-next))
+        (ap (λ (b : ℕ). derivative b (getD (states e) i ∅)) letter-is ∙ met-next))
 
     starts-here : Starts e (before e i (a - 1) ++ map (meeting i a) (m .met))
     starts-here = starts-less (before e i (a - 1) ++ map (meeting i a) (m .met)) (meeting i a (tree-at t row)) starts-next
@@ -215,7 +219,8 @@ module _ {e : Expression} {i a r : ℕ} {rooms : Counts} {place : Place} {c : Le
         record {
           state = m .state;
           row = s .outcome .2;
-          next = subst (λ y. Starts y (next-met (with-rows c t) (with-count k n) i a row)) (sym (root-is grown)) (subst (Starts e) (sym next-is) starts-next) }
+          next = subst (λ y. Starts y (next-met (with-rows c t) (with-count k n) i a row)) (sym (root-is grown)) (subst (Starts e) (sym next-is) starts-next);
+        }
 
     -- There is no room for it.
     pub member-full : {c′ : Lent} → Met (with-rows c t) (with-count k n) rooms i a row NoRoom c′ → Exceeds e rooms
@@ -248,21 +253,22 @@ module _ {e : Expression} {i a r : ℕ} {rooms : Counts} {place : Place} {c : Le
             rest = next-of .0;
             split = met-next;
             progress =
-              subst (λ ms. Progress e ms (lent t column flags f l o) k′)
-              (append-assoc (before e i (a - 1)) (map (meeting i a) (m .met)) (meeting i a (tree-at t row) ∷ [])
-              ∙ ap (λ xs. before e i (a - 1) ++ xs) (sym (map-append (meeting i a) (m .met) (tree-at t row ∷ []))))
-              after;
+                subst (λ ms. Progress e ms (lent t column flags f l o) k′)
+                (append-assoc (before e i (a - 1)) (map (meeting i a) (m .met)) (meeting i a (tree-at t row) ∷ [])
+                ∙ ap (λ xs. before e i (a - 1) ++ xs) (sym (map-append (meeting i a) (m .met) (tree-at t row ∷ []))))
+                after;
             roomy = w .goes .1;
             row-in = subst (λ (j : ℕ). r < j) (sym (w .kept)) (lt-of-lt-of-le (m .row-in) (s .outcome .0 .more));
             row-is = still;
             standing = (row-below, subst (List·Memᴰ (tree-at t row)) (sym list-still) (Memᴰ·append-right (m .met) (List·Memᴰ·head refl)));
             coming = come;
             state =
-              (let b = so-far-begins e (before e i (a - 1) ++ map (meeting i a) (m .met)) (meeting i a (tree-at t row) ∷ []) in
-              omega (arith, m .state, m .progress .state-count, after .state-count, ap length (b .goes-on), length-append (so-far e (before e i (a - 1) ++ map (meeting i a) (m .met))) (b .rest)));
+                (let b = so-far-begins e (before e i (a - 1) ++ map (meeting i a) (m .met)) (meeting i a (tree-at t row) ∷ []) in
+                omega (arith, m .state, m .progress .state-count, after .state-count, ap length (b .goes-on), length-append (so-far e (before e i (a - 1) ++ map (meeting i a) (m .met))) (b .rest)));
             within = m .within;
             low = m .low;
-            high = m .high }
+            high = m .high;
+          }
 
       pub member-less : length (to-come t (Behind row) (derivative a (tree-at t r))) < length (to-come (c .rows) place (derivative a (tree-at (c .rows) r)))
       member-less = omega (arith, ap length come, ap length (m .coming ∙ next-of .1))
@@ -275,11 +281,12 @@ module _ {e : Expression} {i a r : ℕ} {rooms : Counts} {place : Place} {c : Le
       let last : m .rest ≡ [] = first-none (m .rest) (ap first-of (sym (m .coming)) ∙ s .outcome .2) in
       let all : derivative a (getD (states e) i ∅) ≡ m .met = m .split ∙ ap (λ xs. m .met ++ xs) last ∙ append-nil (m .met) in
       let whole : before e i a ≡ before e i (a - 1) ++ map (meeting i a) (m .met) =
-        ap (before e i) (sym letter-is) ∙ before-letter e i (a - 1)
-        ∙ ap (λ (b : ℕ). before e i (a - 1) ++ map (meeting i b) (derivative b (getD (states e) i ∅))) letter-is
-        ∙ ap (λ xs. before e i (a - 1) ++ map (meeting i a) xs) all in
-      (subst (λ ms. Progress e ms (with-rows c t) (with-count k n)) (sym whole) (progress-grown (m .progress) (s .outcome .0) (λ z h. all-needed z (s .outcome .3 z h))),
-       roomy-grown (m .roomy) (s .outcome .0) (s .outcome .1) same-length)
+      ap (before e i) (sym letter-is) ∙ before-letter e i (a - 1)
+      ∙ ap (λ (b : ℕ). before e i (a - 1) ++ map (meeting i b) (derivative b (getD (states e) i ∅))) letter-is
+      ∙ ap (λ xs. before e i (a - 1) ++ map (meeting i a) xs) all in (
+        subst (λ ms. Progress e ms (with-rows c t) (with-count k n)) (sym whole) (progress-grown (m .progress) (s .outcome .0) (λ z h. all-needed z (s .outcome .3 z h))),
+        roomy-grown (m .roomy) (s .outcome .0) (s .outcome .1) same-length,
+      )
 
 -- ---- Answers told by a match
 

@@ -40,9 +40,11 @@ pub fn build(
 ) -> Building
     ensures { λ r. ⌜ Built (table (now (kind .entry)) (now (left .entry)) (now (right .entry))) (lent (table (now (xkind .entry)) (now (xleft .entry)) (now (xright .entry))) (now (expression .entry)) (now (accepting .entry)) (now (from .entry)) (now (letter .entry)) (now (to .entry))) (answer r) (lent (table (now (xkind .exit)) (now (xleft .exit)) (now (xright .exit))) (now (expression .exit)) (now (accepting .exit)) (now (from .exit)) (now (letter .exit)) (now (to .exit))) ⌝ }
 {
-    let rows = (xleft.len() == xkind.len()) & (xright.len() == xkind.len());
-    let arcs = (letter.len() == from.len()) & (to.len() == from.len());
-    let even = rows & (accepting.len() == expression.len()) & arcs;
+    let even = (xleft.len() == xkind.len())
+        & (xright.len() == xkind.len())
+        & (accepting.len() == expression.len())
+        & (letter.len() == from.len())
+        & (to.len() == from.len());
     clear(
         xkind,
         xleft,

@@ -72,7 +72,7 @@ same-length-8 c = search needs
 
 -- src/lib.rt:157:1
 returns : tie.Need-returns
-returns c = search needs
+returns c = record { kind = c .before .before .before .before .before .before .before .before .before .before .before .before .before .before .before .before .before .before .before .before .before .before .before .before .before .before .before .before .before .before .clear8 .ensures; left = c .before .before .before .before .before .before .before .before .before .before .before .before .before .before .before .before .before .before .before .before .before .before .before .before .before .before .clear16 .ensures; right = c .before .before .before .before .before .before .before .before .before .before .before .before .before .before .before .before .before .before .before .before .before .before .clear162 .ensures; expression = c .before .before .before .before .before .before .before .before .before .before .before .before .before .before .before .before .before .before .clear163 .ensures; accepting = c .before .before .before .before .before .before .before .before .before .before .before .before .before .before .clear82 .ensures; from = c .before .before .before .before .before .before .before .before .before .before .clear164 .ensures; letter = c .before .before .before .before .before .before .clear83 .ensures; to = c .before .before .clear165 .ensures }
 
 pub clear-spec : {M : Type 1} → statement M
 clear-spec =

@@ -19,7 +19,7 @@ smaller-requires-3 c κs = search needs
 
 -- src/lib.rt:83:1
 returns : tie.Need-returns
-returns c = search needs
+returns c = λ i. record { rows = c .before .before .smaller .ensures i; states = c .before .smaller2 .ensures i; arcs = c .smaller3 .ensures i }
 
 pub rooms-spec : {M : Type 1} → statement M
 rooms-spec = tie.close (tie.spec smaller-requires smaller-requires-2 smaller-requires-3 returns)

@@ -67,9 +67,10 @@ returns c = record { goes = begun-as _ _ _ _ _ (c .enum-told .given .1) (c .befo
 
 -- src/states.rt:217:5
 loop-holds : tie.Need-loop-holds Inv-loop μ-loop
-loop-holds c =
-    (state-begins (c .before .before .before .before .before .before .before .before .before .before .before .before .before .before .before .before .before .before .before .before .before .before .before .before .before .before .before .before .before .before .before .pre .1) (c .before .before .before .before .before .before .before .before .before .before .before .before .before .start .kept .1 .1 .1 .1 .0) (c .before .before .before .before .before .before .before .before .before .before .before .before .before .start .kept .1 .1 .1 .1 .1 .1 .1 .0) (c .before .before .before .before .before .before .before .before .before .before .before .before .before .start .kept .1 .1 .1 .1 .1 .1 .1 .1 .0) (begun-as _ _ _ _ _ (c .before .counts .given .1) (c .before .before .before .before .before .before .before .before .before .before .before .before .before .start .ensures)),
-     lengths-none _)
+loop-holds c = (
+  state-begins (c .before .before .before .before .before .before .before .before .before .before .before .before .before .before .before .before .before .before .before .before .before .before .before .before .before .before .before .before .before .before .before .pre .1) (c .before .before .before .before .before .before .before .before .before .before .before .before .before .start .kept .1 .1 .1 .1 .0) (c .before .before .before .before .before .before .before .before .before .before .before .before .before .start .kept .1 .1 .1 .1 .1 .1 .1 .0) (c .before .before .before .before .before .before .before .before .before .before .before .before .before .start .kept .1 .1 .1 .1 .1 .1 .1 .1 .0) (begun-as _ _ _ _ _ (c .before .counts .given .1) (c .before .before .before .before .before .before .before .before .before .before .before .before .before .start .ensures)),
+  lengths-none _,
+)
 
 -- src/states.rt:218:38
 leaving-requires : tie.Need-leaving-requires Inv-loop μ-loop
@@ -129,9 +130,10 @@ loop-less c = let n = state-next (c .before .before .before .before .before .bef
 
 -- src/states.rt:217:5
 loop-again : tie.Need-loop-again Inv-loop μ-loop
-loop-again c =
-    (state-next (c .before .before .before .before .before .before .before .before .before .before .before .before .before .before .before .before .before .before .before .before .before .before .before .before .before .before .before .before .before .before .loop .inv .0) (c .before .before .before .before .before .before .before .before .before .before .before .before .before .before .before .before .before .before .before .before .before .before .before .before .before .before .before .before .if1 .taken) (reaches-as (c .before .m .given .1) (c .before .before .before .before .before .before .before .before .before .before .before .before .before .before .before .before .before .before .before .leaving .ensures)),
-     record { kind = c .before .before .before .before .before .before .before .before .before .before .before .before .before .before .before .before .before .before .before .leaving .kept .1 .1 .1 .1 .0 ∙ c .before .before .before .before .before .before .before .before .before .before .before .before .before .before .before .before .before .before .before .before .before .before .before .before .before .before .before .before .before .before .loop .inv .1 .kind; left = c .before .before .before .before .before .before .before .before .before .before .before .before .before .before .before .before .before .before .before .leaving .kept .1 .1 .1 .1 .1 .0 ∙ c .before .before .before .before .before .before .before .before .before .before .before .before .before .before .before .before .before .before .before .before .before .before .before .before .before .before .before .before .before .before .loop .inv .1 .left; right = c .before .before .before .before .before .before .before .before .before .before .before .before .before .before .before .before .before .before .before .leaving .kept .1 .1 .1 .1 .1 .1 .0 ∙ c .before .before .before .before .before .before .before .before .before .before .before .before .before .before .before .before .before .before .before .before .before .before .before .before .before .before .before .before .before .before .loop .inv .1 .right; expression = c .before .before .before .before .before .before .before .before .before .before .before .before .before .before .before .before .before .before .before .leaving .kept .1 .1 .1 .1 .1 .1 .1 .0 ∙ c .before .before .before .before .before .before .before .before .before .before .before .before .before .before .before .before .before .before .before .before .before .before .before .before .before .before .before .before .before .before .loop .inv .1 .expression; accepting = c .before .before .before .before .before .before .before .before .before .before .before .before .before .before .before .before .before .before .before .leaving .kept .1 .1 .1 .1 .1 .1 .1 .1 .0 ∙ c .before .before .before .before .before .before .before .before .before .before .before .before .before .before .before .before .before .before .before .before .before .before .before .before .before .before .before .before .before .before .loop .inv .1 .accepting; from = c .before .before .before .before .before .before .before .before .before .before .before .before .before .before .before .before .before .before .before .leaving .kept .1 .1 .1 .1 .1 .1 .1 .1 .1 .0 ∙ c .before .before .before .before .before .before .before .before .before .before .before .before .before .before .before .before .before .before .before .before .before .before .before .before .before .before .before .before .before .before .loop .inv .1 .from; letter = c .before .before .before .before .before .before .before .before .before .before .before .before .before .before .before .before .before .before .before .leaving .kept .1 .1 .1 .1 .1 .1 .1 .1 .1 .1 .0 ∙ c .before .before .before .before .before .before .before .before .before .before .before .before .before .before .before .before .before .before .before .before .before .before .before .before .before .before .before .before .before .before .loop .inv .1 .letter; to = c .before .before .before .before .before .before .before .before .before .before .before .before .before .before .before .before .before .before .before .leaving .kept .1 .1 .1 .1 .1 .1 .1 .1 .1 .1 .1 .0 ∙ c .before .before .before .before .before .before .before .before .before .before .before .before .before .before .before .before .before .before .before .before .before .before .before .before .before .before .before .before .before .before .loop .inv .1 .to })
+loop-again c = (
+  state-next (c .before .before .before .before .before .before .before .before .before .before .before .before .before .before .before .before .before .before .before .before .before .before .before .before .before .before .before .before .before .before .loop .inv .0) (c .before .before .before .before .before .before .before .before .before .before .before .before .before .before .before .before .before .before .before .before .before .before .before .before .before .before .before .before .if1 .taken) (reaches-as (c .before .m .given .1) (c .before .before .before .before .before .before .before .before .before .before .before .before .before .before .before .before .before .before .before .leaving .ensures)),
+  record { kind = c .before .before .before .before .before .before .before .before .before .before .before .before .before .before .before .before .before .before .before .leaving .kept .1 .1 .1 .1 .0 ∙ c .before .before .before .before .before .before .before .before .before .before .before .before .before .before .before .before .before .before .before .before .before .before .before .before .before .before .before .before .before .before .loop .inv .1 .kind; left = c .before .before .before .before .before .before .before .before .before .before .before .before .before .before .before .before .before .before .before .leaving .kept .1 .1 .1 .1 .1 .0 ∙ c .before .before .before .before .before .before .before .before .before .before .before .before .before .before .before .before .before .before .before .before .before .before .before .before .before .before .before .before .before .before .loop .inv .1 .left; right = c .before .before .before .before .before .before .before .before .before .before .before .before .before .before .before .before .before .before .before .leaving .kept .1 .1 .1 .1 .1 .1 .0 ∙ c .before .before .before .before .before .before .before .before .before .before .before .before .before .before .before .before .before .before .before .before .before .before .before .before .before .before .before .before .before .before .loop .inv .1 .right; expression = c .before .before .before .before .before .before .before .before .before .before .before .before .before .before .before .before .before .before .before .leaving .kept .1 .1 .1 .1 .1 .1 .1 .0 ∙ c .before .before .before .before .before .before .before .before .before .before .before .before .before .before .before .before .before .before .before .before .before .before .before .before .before .before .before .before .before .before .loop .inv .1 .expression; accepting = c .before .before .before .before .before .before .before .before .before .before .before .before .before .before .before .before .before .before .before .leaving .kept .1 .1 .1 .1 .1 .1 .1 .1 .0 ∙ c .before .before .before .before .before .before .before .before .before .before .before .before .before .before .before .before .before .before .before .before .before .before .before .before .before .before .before .before .before .before .loop .inv .1 .accepting; from = c .before .before .before .before .before .before .before .before .before .before .before .before .before .before .before .before .before .before .before .leaving .kept .1 .1 .1 .1 .1 .1 .1 .1 .1 .0 ∙ c .before .before .before .before .before .before .before .before .before .before .before .before .before .before .before .before .before .before .before .before .before .before .before .before .before .before .before .before .before .before .loop .inv .1 .from; letter = c .before .before .before .before .before .before .before .before .before .before .before .before .before .before .before .before .before .before .before .leaving .kept .1 .1 .1 .1 .1 .1 .1 .1 .1 .1 .0 ∙ c .before .before .before .before .before .before .before .before .before .before .before .before .before .before .before .before .before .before .before .before .before .before .before .before .before .before .before .before .before .before .loop .inv .1 .letter; to = c .before .before .before .before .before .before .before .before .before .before .before .before .before .before .before .before .before .before .before .leaving .kept .1 .1 .1 .1 .1 .1 .1 .1 .1 .1 .1 .0 ∙ c .before .before .before .before .before .before .before .before .before .before .before .before .before .before .before .before .before .before .before .before .before .before .before .before .before .before .before .before .before .before .loop .inv .1 .to },
+)
 
 -- src/states.rt:183:1
 same-length-14 : tie.Need-same-length-14 Inv-loop μ-loop
