@@ -1,5 +1,6 @@
 pub mod Causes
 pub mod Examples
+pub mod Limits
 pub mod DemandOne
 pub mod Handing
 pub mod DemandTwo

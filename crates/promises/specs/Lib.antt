@@ -3,3 +3,4 @@ pub mod Table
 pub mod Builder
 pub mod Matcher
 pub mod Examples
+pub mod Limits
