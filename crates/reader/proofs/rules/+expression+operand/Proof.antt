@@ -1,6 +1,7 @@
--- The proof of the cycle of calls {expression, operand}. The measure is twice the text that is left, and one more for `expression`, which
--- calls `operand` where it stands; `operand` calls `expression` behind a byte. Each answer cites what its parts answered.
-use Prim.Native.Nat.{ℕ, _+_, _-_, _*_, _≤_, _<_}
+-- The proof of the cycle of calls {expression, operand}. The measure is the text that is left and the parentheses that may still be opened,
+-- and one more for `expression`, which calls `operand` where it stands; `operand` opens one behind a byte. Each answer cites what its parts
+-- answered.
+use Prim.Native.Nat.{ℕ, _+_, _-_, _≤_, _<_}
 use native.Mathlib.Omega.{arith}
 use mathlib.Core.Path.{_≡_, sym, subst, _∙_}
 use lib.ListN.{length, getD}
@@ -29,10 +30,10 @@ use Rattle.reader.proofs.rules.+expression+operand.{statement}
 use Rattle.reader.proofs.rules.+expression+operand.Tie.{close}
 
 abbrev μ-expression : Measures 4 expression-kinds.ps ℕ
-μ-expression κs a = 2 * (length (a .0 .now) - a .1 .0 .at) + 1
+μ-expression κs a = (length (a .0 .now) - a .1 .0 .at) + (64 - a .1 .1 .0) + 1
 
 abbrev μ-operand : Measures 4 operand-kinds.ps ℕ
-μ-operand κs a = 2 * (length (a .0 .now) - a .1 .0 .at)
+μ-operand κs a = (length (a .0 .now) - a .1 .0 .at) + (64 - a .1 .1 .0)
 
 abbrev expression-at : ℕ → In 4 expression-kinds.ps
 expression-at t =
