@@ -2,9 +2,11 @@
 
 mod lines;
 mod records;
+mod tables;
 mod texts;
 
 fn main() {
     texts::all();
     records::all();
+    tables::all();
 }
