@@ -1,14 +1,14 @@
 // Lines of numbers on standard output.
 
-pub fn first(n: usize) {
+pub(crate) fn first(n: usize) {
     io::print_decimal(1, n as u64);
 }
 
-pub fn next(n: usize) {
+pub(crate) fn next(n: usize) {
     io::write_all(1, b" ");
     io::print_decimal(1, n as u64);
 }
 
-pub fn end() {
+pub(crate) fn end() {
     io::write_all(1, b"\n");
 }

@@ -84,7 +84,7 @@ fn uneven() {
     ));
 }
 
-pub fn all() {
+pub(crate) fn all() {
     two_states(2, 1, 1, 0, b'a', 1, b"");
     two_states(2, 1, 1, 0, b'a', 1, b"a");
     two_states(2, 1, 1, 0, b'a', 1, b"b");

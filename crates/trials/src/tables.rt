@@ -152,7 +152,7 @@ fn causes() {
     table(&[0], &[0], &[0]);
 }
 
-pub fn all() {
+pub(crate) fn all() {
     causes();
     needs(b"0", 2, 1, 0);
     needs(b"1", 1, 1, 0);

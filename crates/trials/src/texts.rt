@@ -149,7 +149,7 @@ fn balanced(n: usize) {
     beginning(&text, n);
 }
 
-pub fn all() {
+pub(crate) fn all() {
     read(b"", 512, 512, 512);
     read(b"(a)", 512, 512, 512);
     read(b"0*", 512, 512, 512);
