@@ -13,10 +13,9 @@ use Rattle.theory.specs.Column.{filled}
 use Rattle.theory.specs.Table.{Table, Row, table, columns, tree, table-refusal}
 use Rattle.theory.specs.Grammar.{Text, Reading, read, rows, written, Writable, Reads, whole, broken, stopped, deep, many}
 use Rattle.theory.specs.Read.{Read, Entered, entered, Due, differ, long, short}
-use Rattle.theory.specs.Build.{Lent, Counts, Built}
+use Rattle.theory.specs.Build.{Lent, Counts, Built, EvenLent}
 use Rattle.theory.proofs.Due.{left-by, leaves}
 use Rattle.theory.proofs.Rows.{read-fits, rows-length, rows-tree, rows-refused-never}
-use Rattle.theory.proofs.Room.{EvenLent}
 use Rattle.promises.specs.Builder.{BuilderCause, room, none}
 use Rattle.promises.specs.Builder as Building
 use Rattle.promises.proofs.Causes.Table.{table-due}
