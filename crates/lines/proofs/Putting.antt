@@ -6,6 +6,7 @@ use mathlib.Core.Path.{_≡_, refl, sym, ap, _∙_, subst}
 use mathlib.Core.List.{List, [], _∷_, _++_, append-nil, append-assoc}
 use lib.ListN.{length, getD, take, set, length-set, length-append}
 use lib.Seq.{length-take-le, take-all, take-suc, take-suc-set}
+use Rattle.io.specs.Counts.{Counts}
 use Rattle.io.specs.Digits.{Fewest}
 use Rattle.io.specs.Digits.{digits as Digits·digits}
 use Rattle.theory.specs.Lines.{number-and}
@@ -70,3 +71,7 @@ numbered digits k n behind {before} {between} {used} {at} e l f d r p = record {
   where
     inside : at < length between
     inside = let c = p .count in let s = p .same-length in let t = length-take-le k digits l in let m = twenty-digits n k e f in omega arith
+
+-- What lending the beginning of a block asks.
+pub counts-of : (n : ℕ) (block : List ℕ) → n ≤ length block → Counts n block
+counts-of n block l = (l, sym (length-take-le n block l))

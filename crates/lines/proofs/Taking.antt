@@ -10,10 +10,14 @@ use lib.Seq.{getD-set-same, getD-set-other}
 use Rattle.lines.specs.declared.input.Input.{Input}
 use Rattle.lines.specs.declared.input.Next.{Next}
 use Rattle.lines.specs.declared.input.Next.the-variants.{Byte}
-use Rattle.lines.specs.Input.{Inside, Nexts, Unbroken}
+use Rattle.lines.specs.declared.input.Line.{Line}
+use Rattle.lines.specs.Input.{Inside, Nexts, Unbroken, Took}
 
 pub inside-as : {input : Input} {block block′ : List ℕ} → length block′ ≡ length block → Inside input block → Inside input block′
 inside-as e i = record { behind = i .behind; within = let w = i .within in omega arith }
+
+pub inside-start : {input : Input} {block : List ℕ} → input ≡ record { at = 0; end = 0 } → Inside input block
+inside-start {input} {block} e = subst (λ (i : Input). Inside i block) (sym e) (record { behind = omega arith; within = omega arith })
 
 pub byte-inside : {r : Next} {b : ℕ} {input : Input} {block : List ℕ} → r ≡ Byte b input → Nexts r block → Inside input block
 byte-inside {r} {b} {input} {block} e h = subst (λ (n : Next). Nexts n block) e h
@@ -45,3 +49,8 @@ stored-byte {column = column} {n = n} {b = b} s e i l d = record {
   within = let z = length-set column n b in omega arith;
   unbroken = unbroken-byte column n (s .unbroken) l d;
 }
+
+-- ---- What a caller may rely on
+
+pub took : {r r′ : Line} {block column : List ℕ} → r ≡ r′ → Took r block column → Took r′ block column
+took {block = block} {column = column} e h = subst (λ (l : Line). Took l block column) e h

@@ -22,7 +22,10 @@ Nexts End block = Unit {0}
 abbrev pub Unbroken : List ℕ → ℕ → Type 0
 Unbroken column n = (k : ℕ) → k < n → getD column k 0 ≡ 10 → ⊥
 
-abbrev pub Lines : Line → List ℕ → List ℕ → Type 0
-Lines None block column = Unit {0}
-Lines (Ended n i) block column = (n ≤ length column) × Unbroken column n × Inside i block
-Lines (Full i) block column = Unbroken column (length column) × Inside i block
+abbrev pub Holds : Line → List ℕ → List ℕ → Type 0
+Holds None block column = Unit {0}
+Holds (Ended n i) block column = (n ≤ length column) × Unbroken column n × Inside i block
+Holds (Full i) block column = Unbroken column (length column) × Inside i block
+
+pub record Took (line : Line) (block column : List ℕ) : Type 0 where
+  pub holds : Holds line block column

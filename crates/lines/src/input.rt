@@ -1,7 +1,7 @@
 // Lines of standard input. 01: they end at a newline; "A last line without newline counts if it has a byte".
 
 ghost use mathlib.Core.Path.{_≡_};
-ghost use Rattle.lines.specs.Input.{Inside, Nexts, Lines};
+ghost use Rattle.lines.specs.Input.{Inside, Nexts, Took};
 
 // The bytes of the lent block from `at` to `end` are read and not yet taken. A block of one byte takes nothing behind a newline.
 pub struct Input {
@@ -57,7 +57,7 @@ fn take_byte(block: &mut [u8], input: Input) -> Next
 // The next line, as far as the column holds it; its newline is taken and not stored.
 pub fn take_line(block: &mut [u8], input: Input, column: &mut [u8]) -> Line
     requires { ⌜ Inside input (now block) ⌝ }
-    ensures { λ r. ⌜ Lines r (now (block .exit)) (now (column .exit)) ⌝ }
+    ensures { λ r. ⌜ Took r (now (block .exit)) (now (column .exit)) ⌝ }
 {
     let mut input = input;
     let mut length = 0;

@@ -7,19 +7,24 @@ use lines::output;
 ghost use Prim.Native.Nat.{_+_, _≤_};
 ghost use lib.ListN.{length};
 ghost use Rattle.theory.specs.Lines.{arc-line};
+ghost use Rattle.io.specs.Counts.{Counts};
 ghost use Rattle.lines.specs.Output.{Put};
 
 // 01: "arcs in table order as `from to label`".
 fn arc(block: &mut [u8], used: usize, from: u16, to: u16, letter: u8) -> usize
     requires { ⌜ used + 64 ≤ length (now block) ⌝ }
     ensures { λ r. ⌜ Put (arc-line from to letter) (now (block .entry)) used (now (block .exit)) r ⌝ }
+    ensures { λ r. ⌜ r ≤ used + 64 ⌝ }
 {
     let from_behind = output::number(block, used, from as usize, b' ');
     let to_behind = output::number(block, from_behind, to as usize, b' ');
     output::number(block, to_behind, letter as usize, b'\n')
 }
 
-fn arcs(block: &mut [u8], count: usize, from: &[u16], to: &[u16], letter: &[u8]) -> usize {
+fn arcs(block: &mut [u8], count: usize, from: &[u16], to: &[u16], letter: &[u8]) -> usize
+    requires { ⌜ (64 ≤ length (now block)) × (count ≤ length (now from)) × (count ≤ length (now to)) × (count ≤ length (now letter)) ⌝ }
+    ensures { λ r. ⌜ r ≤ length (now (block .entry)) ⌝ }
+{
     let mut used = 0;
     let mut i = 0;
     while i < count {
@@ -31,20 +36,34 @@ fn arcs(block: &mut [u8], count: usize, from: &[u16], to: &[u16], letter: &[u8])
 }
 
 // 01: "then each accepting state on its own line, ascending".
-fn states(block: &mut [u8], used: usize, count: usize, accepting: &[u8]) -> usize {
+fn states(block: &mut [u8], used: usize, count: usize, accepting: &[u8]) -> usize
+    requires { ⌜ (64 ≤ length (now block)) × (used ≤ length (now block)) × (count ≤ length (now accepting)) ⌝ }
+    ensures { λ r. ⌜ r ≤ length (now (block .entry)) ⌝ }
+{
     let mut used = used;
     let mut i = 0;
     while i < count {
-        if accepting[i] == 1 {
-            used = output::with_room(block, used, false);
-            used = output::number(block, used, i, b'\n');
-        }
+        used = state(block, used, i, accepting[i]);
         i += 1;
     }
     used
 }
 
-fn list(text: &[u8], block: &mut [u8]) -> usize {
+fn state(block: &mut [u8], used: usize, state: usize, accepting: u8) -> usize
+    requires { ⌜ (64 ≤ length (now block)) × (used ≤ length (now block)) ⌝ }
+    ensures { λ r. ⌜ r ≤ length (now (block .entry)) ⌝ }
+{
+    if accepting == 0 {
+        return used;
+    }
+    let used = output::with_room(block, used, false);
+    output::number(block, used, state, b'\n')
+}
+
+fn list(text: &[u8], block: &mut [u8]) -> usize
+    requires { ⌜ 64 ≤ length (now block) ⌝ }
+    ensures { λ r. ⌜ Counts r (now (block .exit)) ⌝ }
+{
     let mut xkind = [0u8; 1024];
     let mut xleft = [0u16; 1024];
     let mut xright = [0u16; 1024];
@@ -76,17 +95,20 @@ fn list(text: &[u8], block: &mut [u8]) -> usize {
     }
 }
 
+fn print(text: &[u8]) {
+    let mut block = [0u8; 4096];
+    let used = list(text, &mut block);
+    io::write_all(1, &block[..used]);
+}
+
 fn main() {
     // One byte at a time. 01: "nothing after it read".
     let mut taken = [0u8; 1];
     // A byte more than a text may have: of a longer line the reader sees that it is longer.
     let mut text = [0u8; 4097];
-    let length = match lines::input::take_line(&mut taken, Input::start(), &mut text) {
-        Line::None => 0,
-        Line::Ended { length, input: _ } => length,
-        Line::Full { input: _ } => 4097,
-    };
-    let mut block = [0u8; 4096];
-    let used = list(&text[..length], &mut block);
-    io::write_all(1, &block[..used]);
+    match lines::input::take_line(&mut taken, Input::start(), &mut text) {
+        Line::None => print(b""),
+        Line::Ended { length, input: _ } => print(&text[..length]),
+        Line::Full { input: _ } => print(&text),
+    }
 }

@@ -60,6 +60,10 @@ module _ {g : Table} {c : Lent} {answer : Counts} {c′ : Lent} (h : Built g c a
   answered : answer ≡ record { refusal = success; states = length (states (tree g)); expressions = length (expressions (tree g)); arcs = length (arcs (tree g)) }
   answered = h .answers ∙ counts-built g c clear
 
+  -- The counts are within what was lent.
+  pub counts-within : (answer .states ≤ state-room c) × (answer .arcs ≤ arc-room c)
+  counts-within = rw answered room-enough
+
   -- What is handed over is the automaton of the tree, with zeros behind it.
   abbrev left : Handed
   left = filled-up (tree g) (length (c .accepting)) (length (c .from)) (length (c .letter)) (length (c .to))

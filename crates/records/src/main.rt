@@ -6,16 +6,28 @@ use lines::input::Line;
 use lines::output;
 use matcher::Judgement;
 ghost use Prim.Native.Nat.{_+_, _≤_};
+ghost use mathlib.Core.List.{_++_};
 ghost use lib.ListN.{length};
+ghost use Rattle.theory.specs.Lines.{number-and, newline};
 ghost use Rattle.lines.specs.Input.{Inside};
+ghost use Rattle.lines.specs.Output.{Put};
+ghost use Rattle.records.specs.Verdict.{line-of};
 
-fn line(block: &mut [u8], used: usize, word: &[u8], n: usize) -> usize {
+fn line(block: &mut [u8], used: usize, word: &[u8], n: usize) -> usize
+    requires { ⌜ used + (length (now word) + 21) ≤ length (now block) ⌝ }
+    ensures { λ r. ⌜ Put (now (word .entry) ++ number-and n newline) (now (block .entry)) used (now (block .exit)) r ⌝ }
+    ensures { λ r. ⌜ r ≤ used + (length (now (word .entry)) + 21) ⌝ }
+{
     let said = output::word(block, used, word);
     output::number(block, said, n, b'\n')
 }
 
 // 01: "prints per record `accepted L`, `unfinished L` (L is live) or `wrong P`".
-fn verdict(block: &mut [u8], used: usize, judgement: Judgement) -> usize {
+fn verdict(block: &mut [u8], used: usize, judgement: Judgement) -> usize
+    requires { ⌜ used + 64 ≤ length (now block) ⌝ }
+    ensures { λ r. ⌜ Put (line-of judgement) (now (block .entry)) used (now (block .exit)) r ⌝ }
+    ensures { λ r. ⌜ r ≤ used + 64 ⌝ }
+{
     match judgement {
         Judgement::Accepted { live } => line(block, used, b"accepted ", live),
         Judgement::Unfinished { live } => line(block, used, b"unfinished ", live),
@@ -34,7 +46,9 @@ fn judge(
     from: &[u16],
     letter: &[u8],
     to: &[u16],
-) {
+)
+    requires { ⌜ Inside input (now taken) ⌝ }
+{
     let mut record = [0u8; 4097];
     let mut current = [0u64; 8];
     let mut next = [0u64; 8];
@@ -81,7 +95,9 @@ fn refuse(number: u8, place: usize) {
     io::write_all(1, &block[..used]);
 }
 
-fn start(text: &[u8], taken: &mut [u8], input: Input) {
+fn start(text: &[u8], taken: &mut [u8], input: Input)
+    requires { ⌜ Inside input (now taken) ⌝ }
+{
     let mut xkind = [0u8; 1024];
     let mut xleft = [0u16; 1024];
     let mut xright = [0u16; 1024];

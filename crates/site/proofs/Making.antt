@@ -9,15 +9,19 @@ use Rattle.theory.specs.Refusal.{Refusal, refusal}
 use Rattle.theory.specs.Table.{Table, Row, columns}
 use Rattle.theory.specs.Grammar.{Text, Reading, read, refused, rows}
 use Rattle.theory.specs.Read.{Read, Entered, entered, column-of, Due}
-use Rattle.theory.specs.Build.{Lent, Counts, Built, Cleared}
+use Rattle.theory.specs.Build.{Lent, Counts, Built, Cleared, state-room, arc-room}
 use Rattle.theory.proofs.Expressed.{filled-part, Expressed, expressed, filled-rows}
 use Rattle.theory.proofs.Filled.{filled-length}
 use Rattle.theory.proofs.Rows.{rows-length}
 use Rattle.theory.proofs.Rows.Trees.{entries-positive}
+use Rattle.promises.proofs.Handing.{counts-within}
 use Rattle.reader.specs.Answer.{answer as entered-by}
 use Rattle.reader.specs.declared.Reading as Enum
 use Rattle.reader.specs.declared.Reading.the-variants.{Read as IsRead, Refused as IsRefused}
-use Rattle.site.specs.Site.{Made, entry-columns, none-built}
+use Rattle.builder.specs.Answer.{answer as counted-by}
+use Rattle.builder.specs.declared.Building.{Building}
+use Rattle.builder.specs.declared.Building.the-variants.{Built as IsBuilt}
+use Rattle.site.specs.Site.{Made, Makes, entry-columns, none-built}
 
 -- What the reader's enum says.
 pub answered : {text : Text} {t t′ : Table} {r r′ : Enum.Reading} → r ≡ r′ → Read text t (entered-by r) t′ → Read text t (entered-by r′) t′
@@ -69,3 +73,15 @@ made-refused {text} {number} {place} h k = record {
   due = subst (Due text entry-columns) (refused-as (h .reading) (refusal number place) (h .answers)) (h .due);
   makes = (refl, k);
 }
+
+-- ---- What a program that goes on with the automaton may rely on
+
+pub built-within : {text : Text} {r : Building} {s x a : ℕ} {c c′ : Lent} → r ≡ IsBuilt s x a → Made text c (counted-by r) c′
+    → (s ≤ state-room c) × (a ≤ arc-room c)
+built-within {text} {r} {s} {x} {a} {c} {c′} e h = go (h .reading) (subst (λ (b : Building). Makes (h .reading) c (counted-by b) c′) e (h .makes))
+  where
+    go : (q : Reading) → Makes q c (counted-by (IsBuilt s x a)) c′ → (s ≤ state-room c) × (a ≤ arc-room c)
+    go (read e) b = counts-within b refl
+    go (refused r) (z, k) =
+        let states = ap (λ (n : Counts). n .states) z in
+        let arcs = ap (λ (n : Counts). n .arcs) z in (omega arith, omega arith)

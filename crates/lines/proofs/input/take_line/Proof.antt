@@ -42,7 +42,7 @@ same-length-2 c = c .before .before .before .before .before .before .before .bef
 
 -- src/input.rt:71:17
 returns : tie.Need-returns Inv-loop μ-loop
-returns c = tt
+returns c = record { holds = tt }
 
 -- src/input.rt:73:13
 same-length-3 : tie.Need-same-length-3 Inv-loop μ-loop
@@ -54,7 +54,7 @@ same-length-4 c = c .before .before .before .before .before .before .before .bef
 
 -- src/input.rt:73:13
 returns-2 : tie.Need-returns-2 Inv-loop μ-loop
-returns-2 c = let s = c .before .before .before .before .before .before .before .before .loop .inv in (s .within, s .unbroken, inside-as (c .before .before .before .before .before .take-byte .kept .0) (s .inside))
+returns-2 c = record { holds = let s = c .before .before .before .before .before .before .before .before .loop .inv in (s .within, s .unbroken, inside-as (c .before .before .before .before .before .take-byte .kept .0) (s .inside)) }
 
 -- src/input.rt:77:13
 same-length-5 : tie.Need-same-length-5 Inv-loop μ-loop
@@ -66,7 +66,7 @@ same-length-6 c = c .before .before .before .before .before .before .before .bef
 
 -- src/input.rt:77:13
 returns-3 : tie.Need-returns-3 Inv-loop μ-loop
-returns-3 c = let s = c .before .before .before .before .before .before .before .before .before .loop .inv in (s .within, s .unbroken, byte-inside (c .before .before .byte .given .1) (c .before .before .before .before .before .before .take-byte .ensures))
+returns-3 c = record { holds = let s = c .before .before .before .before .before .before .before .before .before .loop .inv in (s .within, s .unbroken, byte-inside (c .before .before .byte .given .1) (c .before .before .before .before .before .before .take-byte .ensures)) }
 
 -- src/input.rt:79:9
 slice-write-column : tie.Need-slice-write-column Inv-loop μ-loop
@@ -94,7 +94,7 @@ same-length-8 c = c .before .loop .inv .column-length
 
 -- src/input.rt:58:1
 returns-4 : tie.Need-returns-4 Inv-loop μ-loop
-returns-4 c = let s = c .before .loop .inv in (λ k l. s .unbroken k (omega arith), s .inside)
+returns-4 c = record { holds = let s = c .before .loop .inv in (λ k l. s .unbroken k (omega arith), s .inside) }
 
 pub take-line-spec : {M : Type 1} → statement M
 take-line-spec =
