@@ -57,10 +57,11 @@ fn judge(
     let mut input = input;
     let mut turns = u64::MAX;
     while turns > 0 {
-        // What is judged is shown before the program waits for more.
+        turns -= 1;
+        // What is judged is shown before the program waits for more, and so before the end of the input.
         used = output::with_room(&block, used, input.at == input.end);
         match lines::input::take_line(taken, input, &mut record) {
-            Line::None => break,
+            Line::None => return,
             Line::Full { input: behind } => {
                 input = lines::input::rest(taken, behind);
                 used = output::refused(&mut block, used, 16, 0);
@@ -84,9 +85,7 @@ fn judge(
                 used = verdict(&mut block, used, judgement);
             }
         }
-        turns -= 1;
     }
-    io::write_all(1, &block[..used]);
 }
 
 fn refuse(number: u8, place: usize) {
