@@ -21,8 +21,8 @@ use Rattle.theory.proofs.Sound.{letter-tree, sign-tree, star-tree}
 use Rattle.theory.proofs.Meetings.{Meeting, meetings, so-far, states-met, arcs-met, to-arc}
 use Rattle.derive.specs.Rows.{Rows}
 use Rattle.builder.specs.Progress.{Progress}
-use Rattle.builder.specs.Complete.{SameLengths}
 use Rattle.builder.specs.declared.arcs.Counts.{Counts}
+use Rattle.builder.proofs.Lengths.{SameLengths}
 
 -- ---- Every part of a row's tree is a row's tree
 

@@ -12,7 +12,8 @@ use lib.Dec.{eqb}
 use borrow.Author.Tests.{eq-eqb, ne-eqb}
 use Rattle.theory.specs.Record.{some-below}
 use Rattle.theory.proofs.Below.{some-more}
-use Rattle.builder.specs.Letters.{uses}
+use Rattle.builder.specs.Letters.{uses, IsNext}
+use Rattle.builder.specs.declared.letters.Next.{Next}
 
 -- Entry j is the letter a.
 abbrev is-letter : List ℕ → List ℕ → ℕ → ℕ → Bool
@@ -75,3 +76,7 @@ module _ {kind left : List ℕ} {used : List Bool} {i : ℕ} (m : Marked kind le
 
 pub marked-as : {kind left : List ℕ} {used used′ : List Bool} {i : ℕ} → used′ ≡ used → Marked kind left used i → Marked kind left used′ i
 marked-as {kind} {left} {i = i} e m = subst (λ u. Marked kind left u i) (sym e) m
+
+-- The answer, told by a match.
+pub next-as : (used : ℕ → Bool) (a : ℕ) {n n′ : Next} → n ≡ n′ → IsNext used a n → IsNext used a n′
+next-as used a q h = subst (IsNext used a) q h

@@ -29,7 +29,7 @@ use Rattle.derive.specs.declared.walk.Place.{Place}
 use Rattle.derive.specs.declared.walk.Place.the-variants.{Start, Behind}
 use Rattle.derive.proofs.Growing.{grown-tree}
 use Rattle.derive.proofs.Listing.{first-some, first-none, behind-second, behind-head}
-use Rattle.builder.specs.Progress.{Progress, Roomy, Exceeds, Ready, Meets, Met, Leaves, met-so-far, next-met, root}
+use Rattle.builder.specs.Progress.{Progress, Roomy, Exceeds, Ready, Meets, Met, met-so-far, next-met, root}
 use Rattle.builder.specs.declared.arcs.Counts.{Counts}
 use Rattle.builder.specs.declared.arcs.Went.{Went}
 use Rattle.builder.specs.declared.arcs.Went.the-variants.{On, NoRoom}
@@ -54,9 +54,6 @@ to-ready {e} {done} {c} {rooms} {k} s p o =
     let r = root-is p in
     let d : met-so-far c k ≡ done = ap₂ (λ (n : ℕ) x. take n (meetings x)) (p .arc-count) r ∙ starts-take s in
     record { progress = subst (λ x. Progress x (met-so-far c k) c k) (sym r) (subst (λ ms. Progress e ms c k) (sym d) p); roomy = o }
-
-pub of-ready : {c : Lent} {rooms k : Counts} (done : List Meeting) → Ready c rooms k → Starts (root c) done → k .arcs ≡ length done → Progress (root c) done c k
-of-ready {c} {k = k} done h s q = subst (λ ms. Progress (root c) ms c k) (ap (λ (n : ℕ). take n (meetings (root c))) q ∙ starts-take s) (h .progress)
 
 -- ---- Rows that come
 
@@ -122,6 +119,14 @@ pub record AtMember (e : Expression) (i a r : ℕ) (rooms : Counts) (place : Pla
   pub low : 1 ≤ a
   pub high : a ≤ 255
 
+-- State i has been left by all letters up to a.
+pub record AtLetter (e : Expression) (i a : ℕ) (rooms : Counts) (c : Lent) (k : Counts) : Type 0 where
+  pub progress : Progress e (before e i a) c k
+  pub roomy : Roomy c rooms k
+  pub state : i < k .states
+  pub within : i < length (states e)
+  pub high : a ≤ 255
+
 -- What stands behind a member of a list without repeats.
 behind-split : {ys : List Expression} (q : Expression) (xs zs : List Expression) → NoRepeats (xs ++ (q ∷ zs)) → ys ≡ xs ++ (q ∷ zs) → behind q ys ≡ zs
 behind-split q xs zs once e =
@@ -131,32 +136,28 @@ behind-split q xs zs once e =
     not-both [] o m = List·Memᴰ·not-nil m
     not-both (u ∷ us) o m = ⊎-elim (λ p. o .0 (Memᴰ·cast (sym p) (Memᴰ·append-right us (List·Memᴰ·head refl)))) (not-both us (o .1)) (List·Memᴰ·cases-cons m)
 
-pub member-first : {c : Lent} {rooms k : Counts} {i a : ℕ} → Ready c rooms k → Leaves c k i a → AtMember (root c) i a (getD (c .expression) i 0) rooms Start c k
-member-first {c} {rooms} {k} {i} {a} h l =
-    let e = root c in
-    let p₀ = h .progress in
-    let many : i < length (so-far e (met-so-far c k)) = subst (λ (n : ℕ). i < n) (p₀ .state-count) (l .state) in
-    let s₀ : Starts e (met-so-far c k) = record { rest = drop (k .arcs) (meetings e); goes-on = sym (take-append-drop (k .arcs) (meetings e)) } in
-    let b = states-begin s₀ in
-    let within : i < length (states e) = lt-of-lt-of-le many (states-enough s₀) in
-    let s = starts-before e i (a - 1) within (omega (arith, l .high)) in
-    let p = of-ready (before e i (a - 1)) h s (l .here) in
+-- At the start of the list.
+pub member-first : {e : Expression} {i a : ℕ} {rooms : Counts} {c : Lent} {k : Counts} → Progress e (before e i (a - 1)) c k → Roomy c rooms k
+    → i < k .states → i < length (states e) → 1 ≤ a → a ≤ 255 → AtMember e i a (getD (c .expression) i 0) rooms Start c k
+member-first {e} {i} {a} {rooms} {c} {k} p o state within low high =
+    let many : i < length (so-far e (before e i (a - 1))) = subst (λ (n : ℕ). i < n) (p .state-count) state in
+    let b = states-begin (starts-before e i (a - 1) within (omega arith)) in
     let is : tree-at (c .rows) (getD (c .expression) i 0) ≡ getD (states e) i ∅ =
-    p₀ .named .named i many ∙ sym (ap (λ xs. getD xs i ∅) (b .goes-on) ∙ List·getD-append (so-far e (met-so-far c k)) (b .rest) ∅ i many) in
+    p .named .named i many ∙ sym (ap (λ xs. getD xs i ∅) (b .goes-on) ∙ List·getD-append (so-far e (before e i (a - 1))) (b .rest) ∅ i many) in
     record {
       met = [];
       rest = derivative a (getD (states e) i ∅);
       split = refl;
       progress = subst (λ ms. Progress e ms c k) (sym (append-nil (before e i (a - 1)))) p;
-      roomy = h .roomy;
-      row-in = p₀ .named .within i many;
+      roomy = o;
+      row-in = p .named .within i many;
       row-is = is;
       standing = tt;
       coming = ap (derivative a) is;
-      state = l .state;
+      state = state;
       within = within;
-      low = l .low;
-      high = l .high;
+      low = low;
+      high = high;
     }
 
 module _ {e : Expression} {i a r : ℕ} {rooms : Counts} {place : Place} {c : Lent} {k : Counts} (m : AtMember e i a r rooms place c k) where
@@ -270,23 +271,30 @@ module _ {e : Expression} {i a r : ℕ} {rooms : Counts} {place : Place} {c : Le
             high = m .high;
           }
 
-      pub member-less : length (to-come t (Behind row) (derivative a (tree-at t r))) < length (to-come (c .rows) place (derivative a (tree-at (c .rows) r)))
-      member-less = omega (arith, ap length come, ap length (m .coming ∙ next-of .1))
+      pub member-less : rooms .arcs - k′ .arcs < rooms .arcs - k .arcs
+      member-less =
+          omega (arith, m .progress .arc-count, after .arc-count, length-append (before e i (a - 1) ++ map (meeting i a) (m .met)) (meeting i a (tree-at t row) ∷ []), w .goes .1 .arcs-fit)
 
   -- The list is at its end.
   pub member-end : {n : ℕ} {t : Table} → length (t .kind) ≡ length (c .rows .kind)
       → Steps (c .rows) (k .rows) (rooms .rows) (derivative a (tree-at (c .rows) r)) place (End n) t
-      → Progress e (before e i a) (with-rows c t) (with-count k n) × Roomy (with-rows c t) rooms (with-count k n)
+      → AtLetter e i a rooms (with-rows c t) (with-count k n)
   member-end {n} {t} same-length s =
       let last : m .rest ≡ [] = first-none (m .rest) (ap first-of (sym (m .coming)) ∙ s .outcome .2) in
       let all : derivative a (getD (states e) i ∅) ≡ m .met = m .split ∙ ap (λ xs. m .met ++ xs) last ∙ append-nil (m .met) in
       let whole : before e i a ≡ before e i (a - 1) ++ map (meeting i a) (m .met) =
       ap (before e i) (sym letter-is) ∙ before-letter e i (a - 1)
       ∙ ap (λ (b : ℕ). before e i (a - 1) ++ map (meeting i b) (derivative b (getD (states e) i ∅))) letter-is
-      ∙ ap (λ xs. before e i (a - 1) ++ map (meeting i a) xs) all in (
-        subst (λ ms. Progress e ms (with-rows c t) (with-count k n)) (sym whole) (progress-grown (m .progress) (s .outcome .0) (λ z h. all-needed z (s .outcome .3 z h))),
-        roomy-grown (m .roomy) (s .outcome .0) (s .outcome .1) same-length,
-      )
+      ∙ ap (λ xs. before e i (a - 1) ++ map (meeting i a) xs) all in
+      record {
+        progress =
+            subst (λ ms. Progress e ms (with-rows c t) (with-count k n)) (sym whole)
+            (progress-grown (m .progress) (s .outcome .0) (λ z h. all-needed z (s .outcome .3 z h)));
+        roomy = roomy-grown (m .roomy) (s .outcome .0) (s .outcome .1) same-length;
+        state = m .state;
+        within = m .within;
+        high = m .high;
+      }
 
 -- ---- Answers told by a match
 
