@@ -1,20 +1,19 @@
 -- What `build` owes, way by way: columns that differ, a table that is refused, a room that is exceeded, the automaton. Assumes nothing.
-use Prim.Native.Nat.{ℕ, _≤_, _<_, min}
-use native.Mathlib.Nat.{min-le-left, min-le-right, le-trans}
+use Prim.Native.Nat.{ℕ, _≤_, min}
+use native.Mathlib.Nat.{min-le-left, min-le-right}
 use native.Mathlib.Omega.{arith}
 use mathlib.Core.Path.{_≡_, refl, sym, ap, _∙_, subst}
-use mathlib.Core.Bool.{Bool, true, false, cond, false≢true}
-use mathlib.Core.Logic.{_⊎_, inl, inr, ⊎-elim}
+use mathlib.Core.Bool.{Bool, true, false, cond}
+use mathlib.Core.Logic.{inl, inr}
 use mathlib.Core.List.{List}
 use lib.ListN.{length, length-replicate}
-use borrow.Author.Tests.{ne-eqb, eq-eqb}
-use Rattle.theory.specs.Expression.{Expression}
-use Rattle.theory.specs.Refusal.{Refusal, refusal, success, or-else, columns-differ, room-small}
+use borrow.Author.Tests.{ne-eqb}
+use Rattle.theory.specs.Refusal.{Refusal, refusal, success, columns-differ, room-small}
 use Rattle.theory.specs.Column.{zeros}
 use Rattle.theory.specs.Table.{Table, tree, table-refusal}
 use Rattle.theory.specs.Automaton.{states, arcs, expressions}
 use Rattle.theory.specs.Build as Build
-use Rattle.theory.specs.Build.{Lent, Cleared, even, over-room, build-refusal, counts}
+use Rattle.theory.specs.Build.{Lent, Cleared, even, over-room, build-refusal}
 use Rattle.theory.proofs.Meetings.{meetings}
 use Rattle.theory.proofs.Answers.{counts-built, counts-refused}
 use Rattle.theory.proofs.Tests.{false-of}
@@ -26,7 +25,7 @@ use Rattle.builder.specs.Answer.{answer}
 use Rattle.builder.specs.Progress.{Progress, Roomy, Exceeds}
 use Rattle.builder.specs.declared.Building.the-variants.{Refused, Built}
 use Rattle.builder.specs.declared.arcs.Counts.{Counts}
-use Rattle.builder.proofs.Lengths.{SameLengths, lengths-after}
+use Rattle.builder.proofs.Lengths.{SameLengths}
 use Rattle.builder.proofs.Starting.{Blank}
 use Rattle.builder.proofs.Finishing.{all-states, all-rows, all-arcs, stands}
 

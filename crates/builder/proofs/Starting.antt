@@ -1,16 +1,16 @@
 -- State 0: the literal empty word as row 0, the given expression behind it. Assumes nothing.
 use Prim.Native.Nat.{ℕ, zero, suc, _-_, _≤_, _<_}
 use native.Mathlib.Numerals.{sub-one}
-use native.Mathlib.Nat.{le-refl, lt-of-lt-of-le, le-trans, zero-lt-suc, sub-zero}
+use native.Mathlib.Nat.{le-refl, lt-of-lt-of-le, zero-lt-suc, sub-zero}
 use native.Mathlib.Omega.{arith}
 use mathlib.Core.Path.{_≡_, refl, sym, ap, _∙_, subst}
 use mathlib.Core.Logic.{_⊎_, inl, inr, ⊎-elim}
 use mathlib.Core.Bool.{cond}
-use mathlib.Core.List.{List, [], _∷_, _++_, map, List·Memᴰ, List·Memᴰ·head, List·Memᴰ·eq-of-singleton, List·Memᴰ·not-nil, Memᴰ·cast}
-use lib.ListN.{length, getD, set, replicate, length-set, length-replicate, List·getD-eq-default}
+use mathlib.Core.List.{List, [], _∷_, map, List·Memᴰ, List·Memᴰ·head, List·Memᴰ·eq-of-singleton, List·Memᴰ·not-nil, Memᴰ·cast}
+use lib.ListN.{length, getD, set, length-set}
 use lib.Seq.{getD-set-same, getD-set-other}
-use Rattle.theory.specs.Expression.{Expression, ∅, ε, same, parts}
-use Rattle.theory.specs.Distinct.{NoRepeats, Within, distinct, without}
+use Rattle.theory.specs.Expression.{Expression, ε, same, parts}
+use Rattle.theory.specs.Distinct.{distinct, without}
 use Rattle.theory.specs.Derivative.{empty-word}
 use Rattle.theory.specs.Automaton.{states, expressions}
 use Rattle.theory.specs.Column.{zeros, filled}

@@ -1,11 +1,11 @@
 -- From letter to letter and from state to state, until every state so far has been left by every letter. Assumes nothing.
-use Prim.Native.Nat.{ℕ, suc, _+_, _*_, _-_, _≤_, _<_}
+use Prim.Native.Nat.{ℕ, _+_, _*_, _-_, _≤_, _<_}
 use native.Mathlib.Numerals.{add-one}
 use native.Mathlib.Omega.{arith}
 use mathlib.Core.Path.{_≡_, refl, sym, ap, ap₂, _∙_, subst}
-use mathlib.Core.Logic.{_⊎_, inl, inr, ⊎-elim}
+use mathlib.Core.Logic.{_⊎_, ⊎-elim}
 use mathlib.Core.Bool.{Bool, true, false, _&&_, true≢false}
-use mathlib.Core.List.{List, [], _∷_, flatMap}
+use mathlib.Core.List.{List, [], flatMap}
 use lib.ListN.{length, getD}
 use lib.Dec.{eqb}
 use borrow.Author.Tests.{eq-eqb}
@@ -17,13 +17,13 @@ use Rattle.theory.specs.Build.{Lent}
 use Rattle.theory.proofs.Below.{some-at}
 use Rattle.theory.proofs.Used.{letters-entered}
 use Rattle.theory.proofs.Distinct.{getD-member}
-use Rattle.theory.proofs.Meetings.{Meeting, meetings, before, by-letters, by-states, so-far, before-skip, before-state}
+use Rattle.theory.proofs.Meetings.{meetings, before, by-letters, by-states, so-far, before-skip, before-state}
 use Rattle.theory.proofs.Nearing.{Starts, starts-before, states-enough, unused-nothing, all-left}
 use Rattle.builder.specs.Letters.{uses, IsNext, IsTurn}
 use Rattle.builder.specs.declared.letters.Next.the-variants.{Letter, Over}
 use Rattle.builder.specs.declared.letters.Turn.{Turn}
-use Rattle.builder.specs.declared.letters.Turn.the-variants.{To, Done}
-use Rattle.builder.specs.Progress.{Progress, Roomy, Knows, Started, Reaches, root}
+use Rattle.builder.specs.declared.letters.Turn.the-variants.{To}
+use Rattle.builder.specs.Progress.{Progress, Knows, Started, Reaches, root}
 use Rattle.builder.specs.declared.arcs.Counts.{Counts}
 use Rattle.builder.specs.declared.arcs.Went.{Went}
 use Rattle.derive.specs.declared.walk.Place.the-variants.{Start}

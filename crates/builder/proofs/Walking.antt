@@ -1,27 +1,26 @@
 -- The members of the derivative of a state by a letter, met one by one. Assumes nothing.
-use Prim.Native.Nat.{ℕ, zero, suc, _+_, _-_, _≤_, _<_}
-use native.Mathlib.Nat.{le-refl, lt-of-lt-of-le, le-trans, le-of-eq}
+use Prim.Native.Nat.{ℕ, suc, _+_, _-_, _≤_, _<_}
+use native.Mathlib.Nat.{lt-of-lt-of-le, le-trans, le-of-eq}
 use native.Mathlib.Omega.{arith}
 use mathlib.Core.Path.{_≡_, refl, sym, ap, ap₂, _∙_, subst}
-use mathlib.Core.Logic.{_⊎_, inl, inr, ⊎-elim}
-use mathlib.Core.Option.{Option, none, some}
+use mathlib.Core.Logic.{_⊎_, inl, ⊎-elim}
 use mathlib.Core.List.{List, [], _∷_, _++_, map, map-append, append-assoc, append-nil, List·Memᴰ, List·Memᴰ·head, Memᴰ·cast, Memᴰ·append-right, List·Memᴰ·cases-cons, List·Memᴰ·not-nil}
-use lib.ListN.{length, getD, take, drop, length-append, take-append-drop, List·getD-append}
+use lib.ListN.{length, getD, take, length-append, List·getD-append}
 use lib.Seq.{take-append-seam}
 use Rattle.theory.specs.Expression.{Expression, ∅, same, parts}
 use Rattle.theory.specs.Distinct.{distinct, NoRepeats, Within}
 use Rattle.theory.specs.Derivative.{derivative}
-use Rattle.theory.specs.Automaton.{states, expressions, successors, alphabet, Derived}
+use Rattle.theory.specs.Automaton.{states, expressions, successors, Derived}
 use Rattle.theory.specs.Table.{Table, trees, tree-at}
-use Rattle.theory.specs.Build.{Lent, lent, Names}
+use Rattle.theory.specs.Build.{Lent, lent}
 use Rattle.theory.proofs.Distinct.{no-longer, getD-member}
 use Rattle.theory.proofs.Derivative.{derivative-no-repeats}
 use Rattle.theory.proofs.Accepts.Arcs.{to-alphabet}
 use Rattle.theory.proofs.Members.{to-flatMap}
 use Rattle.theory.proofs.Meetings.{Meeting, meeting, meetings, before, so-far, so-far-begins, before-letter}
-use Rattle.theory.proofs.Nearing.{Starts, starts-before, starts-member, states-begin, states-enough, parts-needed}
+use Rattle.theory.proofs.Nearing.{Starts, starts-before, starts-member, states-begin, parts-needed}
 use Rattle.theory.proofs.States.{states-derived, derived-states}
-use Rattle.derive.specs.Rows.{Rows, Grown, Needed, Short}
+use Rattle.derive.specs.Rows.{Grown, Needed, Short}
 use Rattle.derive.specs.Walk.{to-come, In-list, Steps, Gives, first-of, behind}
 use Rattle.derive.specs.declared.walk.Stepped.{Stepped}
 use Rattle.derive.specs.declared.walk.Stepped.the-variants.{Found, End}

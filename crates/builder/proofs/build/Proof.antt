@@ -13,7 +13,7 @@ use Rattle.theory.proofs.WellFormed.{well-formed}
 use Rattle.builder.specs.Progress.{Exceeds, Standing, Knows, Reaches}
 use Rattle.builder.specs.declared.arcs.Counts.{Counts}
 use Rattle.builder.specs.declared.arcs.Went.the-variants.{On}
-use Rattle.builder.proofs.Lengths.{SameLengths, lengths-after, lengths-automaton, lengths-rows, lengths-none}
+use Rattle.builder.proofs.Lengths.{SameLengths, lengths-after}
 use Rattle.builder.proofs.Starting.{Blank, standing-root, standing-started, begun-as}
 use Rattle.builder.proofs.Turning.{gathered-knows, reaches-as}
 use Rattle.builder.proofs.Owed.{cleared-lengths, cleared-as, cleared-blank, passed, built-refused, built-short, built-whole}

@@ -1,9 +1,6 @@
 use borrow.Author.Needs.{needs}
-use mathlib.Core.Path.{refl, sym, ap, _∙_, subst}
-use mathlib.Core.Bool.{Bool, cond}
+use mathlib.Core.Path.{refl}
 use native.Mathlib.Omega.{arith}
-use Rattle.theory.specs.Refusal.{refusal, columns-differ}
-use Rattle.table.specs.Checked.{Scanned}
 use Rattle.builder.proofs.checked.Statement.{statement}
 use Rattle.builder.proofs.checked.Tie as tie
 
