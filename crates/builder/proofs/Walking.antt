@@ -41,14 +41,14 @@ unfolding so-far distinct
 so-far-first e done = (omega arith, refl)
 
 -- State 0 is the given expression.
-pub root-is : {e : Expression} {done : List Meeting} {c : Lent} {k : Counts} → Progress e done c k → root c ≡ e
+root-is : {e : Expression} {done : List Meeting} {c : Lent} {k : Counts} → Progress e done c k → root c ≡ e
 root-is {e} {done} p = p .named .named 0 (so-far-first e done .0) ∙ so-far-first e done .1
 
-pub starts-take : {e : Expression} {done : List Meeting} → Starts e done → take (length done) (meetings e) ≡ done
+starts-take : {e : Expression} {done : List Meeting} → Starts e done → take (length done) (meetings e) ≡ done
 starts-take {done = done} s = ap (take (length done)) (s .goes-on) ∙ take-append-seam done (s .rest)
 
--- Progress as the functions of the builder hand it on.
-pub to-ready : {e : Expression} {done : List Meeting} {c : Lent} {rooms k : Counts} → Starts e done → Progress e done c k → Roomy c rooms k → Ready c rooms k
+-- Progress as `meet` asks for it.
+to-ready : {e : Expression} {done : List Meeting} {c : Lent} {rooms k : Counts} → Starts e done → Progress e done c k → Roomy c rooms k → Ready c rooms k
 to-ready {e} {done} {c} {rooms} {k} s p o =
     let r = root-is p in
     let d : met-so-far c k ≡ done = ap₂ (λ (n : ℕ) x. take n (meetings x)) (p .arc-count) r ∙ starts-take s in
@@ -102,12 +102,16 @@ roomy-grown o g fits same-length =
 
 -- ---- On the way along a list
 
+-- What is met where these members of the list of state i by the letter a are met.
+abbrev met-at : Expression → ℕ → ℕ → List Expression → List Meeting
+met-at e i a met = before e i (a - 1) ++ map (meeting i a) met
+
 -- State i, the row r, is left by the letter a; the walk stands at `place`, and the members before it are met.
 pub record AtMember (e : Expression) (i a r : ℕ) (rooms : Counts) (place : Place) (c : Lent) (k : Counts) : Type 0 where
   pub met : List Expression
   pub rest : List Expression
   pub split : derivative a (getD (states e) i ∅) ≡ met ++ rest
-  pub progress : Progress e (before e i (a - 1) ++ map (meeting i a) met) c k
+  pub progress : Progress e (met-at e i a met) c k
   pub roomy : Roomy c rooms k
   pub row-in : r < k .rows
   pub row-is : tree-at (c .rows) r ≡ getD (states e) i ∅
@@ -185,16 +189,16 @@ module _ {e : Expression} {i a r : ℕ} {rooms : Counts} {place : Place} {c : Le
   -- A row comes, or stands already, that is the next member.
   module _ {row n : ℕ} {t : Table} (same-length : length (t .kind) ≡ length (c .rows .kind))
       (s : Steps (c .rows) (k .rows) (rooms .rows) (derivative a (tree-at (c .rows) r)) place (Found row n) t) where
-    grown : Progress e (before e i (a - 1) ++ map (meeting i a) (m .met)) (with-rows c t) (with-count k n)
+    grown : Progress e (met-at e i a (m .met)) (with-rows c t) (with-count k n)
     grown = progress-grown (m .progress) (s .outcome .0) (λ z h. all-needed z (s .outcome .4 z h))
 
-    pub next-of : (ys : List Expression) × (m .rest ≡ tree-at t row ∷ ys)
+    next-of : (ys : List Expression) × (m .rest ≡ tree-at t row ∷ ys)
     next-of = first-some (m .rest) (ap first-of (sym (m .coming)) ∙ s .outcome .3)
 
     met-next : derivative a (getD (states e) i ∅) ≡ (m .met ++ (tree-at t row ∷ [])) ++ next-of .0
     met-next = m .split ∙ ap (λ xs. m .met ++ xs) (next-of .1) ∙ sym (append-assoc (m .met) (tree-at t row ∷ []) (next-of .0))
 
-    starts-next : Starts e ((before e i (a - 1) ++ map (meeting i a) (m .met)) ++ (meeting i a (tree-at t row) ∷ []))
+    starts-next : Starts e (met-at e i a (m .met) ++ (meeting i a (tree-at t row) ∷ []))
     starts-next =
         subst (Starts e)
         (ap (λ (b : ℕ). before e i (a - 1) ++ map (meeting i b) (m .met ++ (tree-at t row ∷ []))) letter-is
@@ -203,10 +207,10 @@ module _ {e : Expression} {i a r : ℕ} {rooms : Counts} {place : Place} {c : Le
         (starts-member e i (a - 1) (m .met ++ (tree-at t row ∷ [])) (next-of .0) (m .within) (omega (arith, letter-is, m .high))
         (ap (λ (b : ℕ). derivative b (getD (states e) i ∅)) letter-is ∙ met-next))
 
-    starts-here : Starts e (before e i (a - 1) ++ map (meeting i a) (m .met))
-    starts-here = starts-less (before e i (a - 1) ++ map (meeting i a) (m .met)) (meeting i a (tree-at t row)) starts-next
+    starts-here : Starts e (met-at e i a (m .met))
+    starts-here = starts-less (met-at e i a (m .met)) (meeting i a (tree-at t row)) starts-next
 
-    next-is : next-met (with-rows c t) (with-count k n) i a row ≡ (before e i (a - 1) ++ map (meeting i a) (m .met)) ++ (meeting i a (tree-at t row) ∷ [])
+    next-is : next-met (with-rows c t) (with-count k n) i a row ≡ met-at e i a (m .met) ++ (meeting i a (tree-at t row) ∷ [])
     next-is =
         ap (λ xs. xs ++ (meeting i a (tree-at t row) ∷ []))
         (ap₂ (λ (j : ℕ) y. take j (meetings y)) (grown .arc-count) (root-is grown) ∙ starts-take starts-here)
@@ -227,12 +231,11 @@ module _ {e : Expression} {i a r : ℕ} {rooms : Counts} {place : Place} {c : Le
     member-full w = subst (λ y. Exceeds y rooms) (root-is grown) (w .goes)
 
     -- And it is met.
-    module _ {k′ : Counts} (column flags f l o : List ℕ)
-        (w : Met (with-rows c t) (with-count k n) rooms i a row (On k′) (lent t column flags f l o)) where
-      after : Progress e ((before e i (a - 1) ++ map (meeting i a) (m .met)) ++ (meeting i a (tree-at t row) ∷ [])) (lent t column flags f l o) k′
+    module _ {k′ : Counts} (c′ : Lent) (w : Met (with-rows c t) (with-count k n) rooms i a row (On k′) (with-rows c′ t)) where
+      after : Progress e (met-at e i a (m .met) ++ (meeting i a (tree-at t row) ∷ [])) (with-rows c′ t) k′
       after =
-          subst (λ ms. Progress e ms (lent t column flags f l o) k′) next-is
-          (subst (λ y. Progress y (next-met (with-rows c t) (with-count k n) i a row) (lent t column flags f l o) k′) (root-is grown) (w .goes .0))
+          subst (λ ms. Progress e ms (with-rows c′ t) k′) next-is
+          (subst (λ y. Progress y (next-met (with-rows c t) (with-count k n) i a row) (with-rows c′ t) k′) (root-is grown) (w .goes .0))
 
       still : tree-at t r ≡ getD (states e) i ∅
       still = grown-tree (s .outcome .0) (m .row-in) ∙ m .row-is
@@ -246,14 +249,14 @@ module _ {e : Expression} {i a r : ℕ} {rooms : Counts} {place : Place} {c : Le
       come : behind (tree-at t row) (derivative a (tree-at t r)) ≡ next-of .0
       come = behind-split (tree-at t row) (m .met) (next-of .0) (subst NoRepeats list-still (derivative-no-repeats a (tree-at t r))) list-still
 
-      pub member-next : AtMember e i a r rooms (Behind row) (lent t column flags f l o) k′
+      pub member-next : AtMember e i a r rooms (Behind row) (with-rows c′ t) k′
       member-next =
           record {
             met = m .met ++ (tree-at t row ∷ []);
             rest = next-of .0;
             split = met-next;
             progress =
-                subst (λ ms. Progress e ms (lent t column flags f l o) k′)
+                subst (λ ms. Progress e ms (with-rows c′ t) k′)
                 (append-assoc (before e i (a - 1)) (map (meeting i a) (m .met)) (meeting i a (tree-at t row) ∷ [])
                 ∙ ap (λ xs. before e i (a - 1) ++ xs) (sym (map-append (meeting i a) (m .met) (tree-at t row ∷ []))))
                 after;
@@ -263,8 +266,8 @@ module _ {e : Expression} {i a r : ℕ} {rooms : Counts} {place : Place} {c : Le
             standing = (row-below, subst (List·Memᴰ (tree-at t row)) (sym list-still) (Memᴰ·append-right (m .met) (List·Memᴰ·head refl)));
             coming = come;
             state =
-                (let b = so-far-begins e (before e i (a - 1) ++ map (meeting i a) (m .met)) (meeting i a (tree-at t row) ∷ []) in
-                omega (arith, m .state, m .progress .state-count, after .state-count, ap length (b .goes-on), length-append (so-far e (before e i (a - 1) ++ map (meeting i a) (m .met))) (b .rest)));
+                (let b = so-far-begins e (met-at e i a (m .met)) (meeting i a (tree-at t row) ∷ []) in
+                omega (arith, m .state, m .progress .state-count, after .state-count, ap length (b .goes-on), length-append (so-far e (met-at e i a (m .met))) (b .rest)));
             within = m .within;
             low = m .low;
             high = m .high;
@@ -272,7 +275,7 @@ module _ {e : Expression} {i a r : ℕ} {rooms : Counts} {place : Place} {c : Le
 
       pub member-less : rooms .arcs - k′ .arcs < rooms .arcs - k .arcs
       member-less =
-          omega (arith, m .progress .arc-count, after .arc-count, length-append (before e i (a - 1) ++ map (meeting i a) (m .met)) (meeting i a (tree-at t row) ∷ []), w .goes .1 .arcs-fit)
+          omega (arith, m .progress .arc-count, after .arc-count, length-append (met-at e i a (m .met)) (meeting i a (tree-at t row) ∷ []), w .goes .1 .arcs-fit)
 
   -- The list is at its end.
   pub member-end : {n : ℕ} {t : Table} → length (t .kind) ≡ length (c .rows .kind)
@@ -281,7 +284,7 @@ module _ {e : Expression} {i a r : ℕ} {rooms : Counts} {place : Place} {c : Le
   member-end {n} {t} same-length s =
       let last : m .rest ≡ [] = first-none (m .rest) (ap first-of (sym (m .coming)) ∙ s .outcome .2) in
       let all : derivative a (getD (states e) i ∅) ≡ m .met = m .split ∙ ap (λ xs. m .met ++ xs) last ∙ append-nil (m .met) in
-      let whole : before e i a ≡ before e i (a - 1) ++ map (meeting i a) (m .met) =
+      let whole : before e i a ≡ met-at e i a (m .met) =
       ap (before e i) (sym letter-is) ∙ before-letter e i (a - 1)
       ∙ ap (λ (b : ℕ). before e i (a - 1) ++ map (meeting i b) (derivative b (getD (states e) i ∅))) letter-is
       ∙ ap (λ xs. before e i (a - 1) ++ map (meeting i a) xs) all in

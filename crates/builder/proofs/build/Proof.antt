@@ -22,11 +22,11 @@ use Rattle.builder.proofs.build.Tie as tie
 
 -- ---- The places: the entry, the columns cleared, the table checked, the rooms, state 0, the automaton, room that is exceeded
 
-abbrev entry : tie.After-clear-rows → tie.Start
-entry c = c .before .before .before .before .before .before .before .before .before .before .before .before .before .before .before
-
 abbrev clearing : tie.After-clear-automaton → tie.After-clear-rows
 clearing c = c .before .before .before .before .before .before .before .before .before .before .before .before
+
+abbrev entry : tie.After-clear-automaton → tie.Start
+entry c = clearing c .before .before .before .before .before .before .before .before .before .before .before .before .before .before .before
 
 abbrev cleared : tie.After-checked → tie.After-clear-automaton
 cleared c = c .before .before .before .before .before .before .before .before .before .before .before
@@ -37,6 +37,9 @@ checking c = c .before .before .before
 abbrev sized : tie.After-start → tie.After-rooms
 sized c = c .before .before .before .before .before .before
 
+abbrev zeroed : tie.After-start → tie.After-clear-automaton
+zeroed c = cleared (checking (sized c))
+
 abbrev started : tie.After-slice-known21 → tie.After-start
 started c = c .before .before .before .before .before .before .before .before .before .before
 
@@ -45,6 +48,9 @@ counted c = c .before .before
 
 abbrev gathered : tie.After-fill → tie.After-gather
 gathered c = c .before .before .before .before .before .before .before .before .before
+
+abbrev state-first : tie.After-fill → tie.After-start
+state-first c = started (counted (gathered c) .before .before)
 
 abbrev filled : tie.After-slice-known29 → tie.After-fill
 filled c = c .before .before .before .before .before .before .before .before .before .before .before .before .before .before .before .before
@@ -73,34 +79,31 @@ columns-cleared c =
     let rest = c .clear-automaton .last in
     lent (table (rows .0) (rows .1 .0) (rows .1 .1 .0)) (rest .0) (rest .1 .0) (rest .1 .1 .0) (rest .1 .1 .1 .0) (rest .1 .1 .1 .1 .0)
 
-all-cleared : (c : tie.After-clear-automaton) → Cleared (columns-first (entry (clearing c))) (columns-cleared c)
+all-cleared : (c : tie.After-clear-automaton) → Cleared (columns-first (entry c)) (columns-cleared c)
 all-cleared c =
     let rows = clearing c .clear-rows .ensures in
     let rest = c .clear-automaton .ensures in
     record { kind = rows .0; left = rows .1 .0; right = rows .1 .1; expression = rest .0; accepting = rest .1 .0; from = rest .1 .1 .0; letter = rest .1 .1 .1 .0; to = rest .1 .1 .1 .1 }
 
-abbrev before-start : tie.After-start → tie.After-clear-automaton
-before-start c = cleared (checking (sized c))
-
 abbrev expression-given : tie.After-start → Expression
-expression-given c = tree (given (entry (clearing (before-start c))))
+expression-given c = tree (given (entry (zeroed c)))
 
 abbrev columns-started : tie.After-start → Lent
 columns-started c =
     let last = c .start .last .1 .1 .1 .1 in
-    let rest = columns-cleared (before-start c) in
+    let rest = columns-cleared (zeroed c) in
     lent (table (last .0) (last .1 .0) (last .1 .1 .0)) (last .1 .1 .1 .0) (last .1 .1 .1 .1 .0) (rest .from) (rest .letter) (rest .to)
 
-lengths-started : (c : tie.After-start) → SameLengths (columns-cleared (before-start c)) (columns-started c)
+lengths-started : (c : tie.After-start) → SameLengths (columns-cleared (zeroed c)) (columns-started c)
 lengths-started c =
     let kept = c .start .kept .1 .1 .1 .1 in
     record { kind = kept .0; left = kept .1 .0; right = kept .1 .1 .0; expression = kept .1 .1 .1 .0; accepting = kept .1 .1 .1 .1 .0; from = refl; letter = refl; to = refl }
 
-fine : (c : tie.After-rooms) → (even (columns-first (entry (clearing (cleared (checking c))))) ≡ true) × (table-refusal (given (entry (clearing (cleared (checking c))))) ≡ success)
+fine : (c : tie.After-rooms) → (even (columns-first (entry (cleared (checking c)))) ≡ true) × (table-refusal (given (entry (cleared (checking c)))) ≡ success)
 unfolding even
-fine c = let start = entry (clearing (cleared (checking c))) in passed (given start) (columns-first start) (checking c .checked .ensures) (c .before .enum-told .given .1)
+fine c = let start = entry (cleared (checking c)) in passed (given start) (columns-first start) (checking c .checked .ensures) (c .before .enum-told .given .1)
 
-fine-number : (c : tie.After-rooms) → (table-refusal (given (entry (clearing (cleared (checking c)))))) .number ≡ 0
+fine-number : (c : tie.After-rooms) → (table-refusal (given (entry (cleared (checking c))))) .number ≡ 0
 fine-number c = ap (λ (r : Refusal). r .number) (fine c .1)
 
 blank : (c : tie.After-rooms) → Blank (c .rooms .result) (columns-cleared (cleared (checking c)))
@@ -115,14 +118,11 @@ columns-filled c =
     let last = c .fill .last .1 .1 .1 in
     lent (table (last .0) (last .1 .0) (last .1 .1 .0)) (last .1 .1 .1 .0) (last .1 .1 .1 .1 .0) (last .1 .1 .1 .1 .1 .0) (last .1 .1 .1 .1 .1 .1 .0) (last .1 .1 .1 .1 .1 .1 .1 .0)
 
-abbrev before-fill : tie.After-gather → tie.After-start
-before-fill c = started (counted c .before .before)
-
-lengths-filled : (c : tie.After-fill) → SameLengths (columns-first (entry (clearing (before-start (before-fill (gathered c)))))) (columns-filled c)
+lengths-filled : (c : tie.After-fill) → SameLengths (columns-first (entry (zeroed (state-first c)))) (columns-filled c)
 lengths-filled c =
     let kept = c .fill .kept .1 .1 .1 in
-    let start = before-fill (gathered c) in
-    lengths-after (cleared-lengths (all-cleared (before-start start)))
+    let start = state-first c in
+    lengths-after (cleared-lengths (all-cleared (zeroed start)))
     (lengths-after (lengths-started start)
     (record {
       kind = kept .0;
@@ -135,13 +135,15 @@ lengths-filled c =
       to = kept .1 .1 .1 .1 .1 .1 .1 .0;
     }))
 
--- ---- A need exceeds its room
+-- ---- A need exceeds its room, seen by `fill` or by `start`
 
 abbrev columns-short : tie.At-match2-came → Lent
 columns-short c =
     let at = c .match2 in
     lent (table (at .xkind) (at .xleft) (at .xright)) (at .expression) (at .accepting) (at .from) (at .letter) (at .to)
 
+-- On the way by `fill` its call is the 12th thing told, its answer the 30th, and what the columns then are comes from the 31st on; on the way
+-- by `start` alone the answer is the 1st, and the columns come from the 2nd on.
 short : (c : tie.At-match2-came) → Exceeds (expression-given (started (c .before))) (sized (started (c .before)) .rooms .result) × SameLengths (columns-started (started (c .before))) (columns-short c)
 short c =
     ⊎-elim
@@ -180,16 +182,16 @@ columns-last c =
     let rest = c .clear-automaton2 .last in
     lent (table (rows .0) (rows .1 .0) (rows .1 .1 .0)) (rest .0) (rest .1 .0) (rest .1 .1 .0) (rest .1 .1 .1 .0) (rest .1 .1 .1 .1 .0)
 
-abbrev before-last : tie.After-clear-automaton2 → tie.After-start
-before-last c = started (exceeded (clearing-again c) .before)
+abbrev state-last : tie.After-clear-automaton2 → tie.After-start
+state-last c = started (exceeded (clearing-again c) .before)
 
-cleared-last : (c : tie.After-clear-automaton2) → Cleared (columns-first (entry (clearing (before-start (before-last c))))) (columns-last c)
+cleared-last : (c : tie.After-clear-automaton2) → Cleared (columns-first (entry (zeroed (state-last c)))) (columns-last c)
 cleared-last c =
     let rows = clearing-again c .clear-rows2 .ensures in
     let rest = c .clear-automaton2 .ensures in
-    let start = before-last c in
+    let start = state-last c in
     cleared-as
-    (lengths-after (cleared-lengths (all-cleared (before-start start))) (lengths-after (lengths-started start) (short (exceeded (clearing-again c)) .1)))
+    (lengths-after (cleared-lengths (all-cleared (zeroed start))) (lengths-after (lengths-started start) (short (exceeded (clearing-again c)) .1)))
     (record { kind = rows .0; left = rows .1 .0; right = rows .1 .1; expression = rest .0; accepting = rest .1 .0; from = rest .1 .1 .0; letter = rest .1 .1 .1 .0; to = rest .1 .1 .1 .1 })
 
 -- ---- The needs
@@ -263,7 +265,7 @@ fill-requires c κs =
     let start = started (counts .before .before) in
     let s = standing start _ (counts .counts .given .1) in
     let used = gather .gather .result .used in
-    let table-given = given (entry (clearing (before-start start))) in (
+    let table-given = given (entry (zeroed start)) in (
       standing-started s (blank (sized start)) (lengths-started start),
       subst (Knows used) (sym (standing-root s)) (gathered-knows _ _ (table-given .right) used (gather .gather .ensures)),
     )
@@ -299,11 +301,10 @@ returns-2 : tie.Need-returns-2
 returns-2 c =
     let n = c .before in
     let fill = filled (n .before .before) in
-    let counts = counted (gathered fill) in
-    let start = started (counts .before .before) in
-    let root = standing-root (standing start _ (counts .counts .given .1)) in
+    let start = state-first fill in
+    let root = standing-root (standing start _ (counted (gathered fill) .counts .given .1)) in
     let r = subst (λ e. Reaches e (sized start .rooms .result) (On (n .n .given .0 .0)) (columns-filled fill)) root (reaches-as (n .n .given .1) (fill .fill .ensures)) in
-    built-whole _ (fine (sized start)) (all-cleared (before-start start)) (sized start .rooms .ensures) (r .goes .0) (r .goes .1) (lengths-filled fill)
+    built-whole _ (fine (sized start)) (all-cleared (zeroed start)) (sized start .rooms .ensures) (r .goes .0) (r .goes .1) (lengths-filled fill)
 
 enum-told-2 : tie.Need-enum-told-2
 enum-told-2 c = search needs
@@ -343,8 +344,8 @@ same-length-24 c = cleared-lengths (cleared-last (last c)) .to
 
 returns-3 : tie.Need-returns-3
 returns-3 c =
-    let start = before-last (last c) in
-    built-short _ (fine (sized start)) (all-cleared (before-start start)) (sized start .rooms .ensures) (short (exceeded (clearing-again (last c))) .0) (cleared-last (last c))
+    let start = state-last (last c) in
+    built-short _ (fine (sized start)) (all-cleared (zeroed start)) (sized start .rooms .ensures) (short (exceeded (clearing-again (last c))) .0) (cleared-last (last c))
 
 pub build-spec : {M : Type 1} → statement M
 build-spec =

@@ -108,7 +108,7 @@ met c =
     let step = step-found row in
     let m = turning step .loop .inv .0 in
     let w = met-as (c .m .given .1) (meet .meet .ensures) in
-    (member-next m (step .step .kept .0) (member row) _ _ _ _ _ w, member-less m (step .step .kept .0) (member row) _ _ _ _ _ w)
+    (member-next m (step .step .kept .0) (member row) (columns-met meet) w, member-less m (step .step .kept .0) (member row) (columns-met meet) w)
 
 -- The list is at its end.
 ended : (c : tie.After-used Inv-loop μ-loop)
