@@ -1,9 +1,9 @@
 -- The members of the derivative of a state by a letter, met one by one. Assumes nothing.
-use Prim.Native.Nat.{ℕ, suc, _+_, _-_, _≤_, _<_}
+use Prim.Native.Nat.{ℕ, suc, _-_, _≤_, _<_}
 use native.Mathlib.Nat.{lt-of-lt-of-le, le-trans, le-of-eq}
 use native.Mathlib.Omega.{arith}
 use mathlib.Core.Path.{_≡_, refl, sym, ap, ap₂, _∙_, subst}
-use mathlib.Core.Logic.{_⊎_, inl, ⊎-elim}
+use mathlib.Core.Logic.{inl, ⊎-elim}
 use mathlib.Core.List.{List, [], _∷_, _++_, map, map-append, append-assoc, append-nil, List·Memᴰ, List·Memᴰ·head, Memᴰ·cast, Memᴰ·append-right, List·Memᴰ·cases-cons, List·Memᴰ·not-nil}
 use lib.ListN.{length, getD, take, length-append, List·getD-append}
 use lib.Seq.{take-append-seam}

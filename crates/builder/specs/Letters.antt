@@ -22,7 +22,7 @@ abbrev pub IsNext : (ℕ → Bool) → ℕ → Next → Type 0
 IsNext used after (Letter a) = (after < a) × (a ≤ 255) × (used a ≡ true) × ((b : ℕ) → after < b → b < a → used b ≡ false)
 IsNext used after Over = (b : ℕ) → after < b → b ≤ 255 → used b ≡ false
 
--- 01's order of states and letters: behind state i by the letter a comes the same state by the next letter, else the next state by the first.
+-- Behind state i by the letter a comes the same state by the next letter; where none is left, the next state by the first.
 abbrev pub IsTurn : (ℕ → Bool) → ℕ → ℕ → ℕ → ℕ → Turn → Type 0
 IsTurn used first i a states (To j b) =
     ((j ≡ i) × IsNext used a (Letter b)) ⊎ ((j ≡ i + 1) × (i + 1 < states) × (b ≡ first) × IsNext used a Over)

@@ -1,5 +1,5 @@
 -- How far the automaton of e stands in the lent columns: what is met so far, in 01's order, and what the columns then hold.
-use Prim.Native.Nat.{ℕ, _-_, _≤_, _<_}
+use Prim.Native.Nat.{ℕ, _≤_, _<_}
 use mathlib.Core.Path.{_≡_}
 use mathlib.Core.Bool.{Bool, false, cond}
 use mathlib.Core.Logic.{_⊎_}
@@ -12,7 +12,7 @@ use Rattle.theory.specs.Automaton.{states, arcs, expressions}
 use Rattle.theory.specs.Column.{zeros, filled}
 use Rattle.theory.specs.Table.{Table, trees, tree-at}
 use Rattle.theory.specs.Build.{Lent, Names}
-use Rattle.theory.proofs.Meetings.{Meeting, meeting, meetings, before, so-far}
+use Rattle.theory.proofs.Meetings.{Meeting, meeting, meetings, so-far}
 use Rattle.theory.proofs.Nearing.{Starts}
 use Rattle.derive.specs.Rows.{Rows}
 use Rattle.builder.specs.declared.arcs.Counts.{Counts}

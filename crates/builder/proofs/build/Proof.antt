@@ -142,8 +142,7 @@ columns-short c =
     let at = c .match2 in
     lent (table (at .xkind) (at .xleft) (at .xright)) (at .expression) (at .accepting) (at .from) (at .letter) (at .to)
 
--- On the way by `fill` its call is the 12th thing told, its answer the 30th, and what the columns then are comes from the 31st on; on the way
--- by `start` alone the answer is the 1st, and the columns come from the 2nd on.
+-- By `fill`, place 12 is its call, 30 its answer, and from 31 on the columns; by `start`, 1 is its answer, and from 2 on the columns.
 short : (c : tie.At-match2-came) → Exceeds (expression-given (started (c .before))) (sized (started (c .before)) .rooms .result) × SameLengths (columns-started (started (c .before))) (columns-short c)
 short c =
     ⊎-elim
