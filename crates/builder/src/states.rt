@@ -1,4 +1,4 @@
-// The states in number order, the letters in ascending order for each, the members in list order.
+// State 0, and all that is met from it on.
 
 use super::arcs::Counts;
 use super::arcs::Went;
@@ -64,7 +64,8 @@ pub fn start(
     }
 }
 
-// All that is met from state 0 on, by the letters that the given expression uses.
+// 01: "States are handled in number order, letters from 1 to 255 for each, members in list order". By a letter that no entry has nothing
+// is met, so it is passed over.
 pub fn fill(
     letters: Letters,
     rooms: Counts,

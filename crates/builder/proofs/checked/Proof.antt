@@ -1,3 +1,4 @@
+-- `checked` meets its contract: refusal 1, or what the check of the table says.
 use borrow.Author.Needs.{needs}
 use mathlib.Core.Path.{refl}
 use native.Mathlib.Omega.{arith}

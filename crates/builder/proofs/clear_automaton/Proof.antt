@@ -1,3 +1,4 @@
+-- `clear_automaton` meets its contract: each column is what its own call leaves.
 use borrow.Author.Needs.{needs}
 use Rattle.builder.proofs.clear_automaton.Statement.{statement}
 use Rattle.builder.proofs.clear_automaton.Tie as tie
@@ -33,7 +34,13 @@ same-length-5 : tie.Need-same-length-5
 same-length-5 c = search needs
 
 returns : tie.Need-returns
-returns c = (c .before .before .before .before .before .before .before .before .before .before .before .before .before .before .before .before .before .before .clear16 .ensures, (c .before .before .before .before .before .before .before .before .before .before .before .before .before .before .clear8 .ensures, (c .before .before .before .before .before .before .before .before .before .before .clear162 .ensures, (c .before .before .before .before .before .before .clear82 .ensures, c .before .before .clear163 .ensures))))
+returns c =
+    let to = c .before .before in
+    let letter = to .before .before .before .before in
+    let from = letter .before .before .before .before in
+    let accepting = from .before .before .before .before in
+    let expression = accepting .before .before .before .before in
+    (expression .clear16 .ensures, (accepting .clear8 .ensures, (from .clear162 .ensures, (letter .clear82 .ensures, to .clear163 .ensures))))
 
 pub clear-automaton-spec : {M : Type 1} → statement M
 clear-automaton-spec =

@@ -1,3 +1,4 @@
+-- `turn` meets its contract: the same state, the next, or none.
 use borrow.Author.Needs.{needs}
 use mathlib.Core.Path.{refl}
 use mathlib.Core.Logic.{inl, inr}
