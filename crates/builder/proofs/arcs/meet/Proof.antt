@@ -29,6 +29,9 @@ stored-new c = c .before .before .before .before .before .before
 
 -- ---- The needs
 
+add-next-arc : tie.Need-add-next-arc
+add-next-arc c = search needs
+
 find-requires : tie.Need-find-requires
 find-requires c κs = search needs
 
@@ -36,7 +39,7 @@ same-length : tie.Need-same-length
 same-length c = search needs
 
 returns : tie.Need-returns
-returns c = let h = entry (c .before) .pre in met-no-arc (h .0) (h .1) _ (c .if1 .taken)
+returns c = let h = entry (c .before) .pre in met-no-arc (h .0) (h .1) _ (omega (arith, c .if1 .taken))
 
 cast-store : tie.Need-cast-store
 cast-store c = search needs
@@ -46,9 +49,6 @@ cast-store-2 c = search needs
 
 store-requires : tie.Need-store-requires
 store-requires c κs = search needs
-
-add-t31 : tie.Need-add-t31
-add-t31 c = let known = storing (stored c) in omega (arith, entry (known .before .before) .pre .0 .roomy .arcs-small, known .before .if1 .left)
 
 same-length-2 : tie.Need-same-length-2
 same-length-2 c = search needs
@@ -68,7 +68,10 @@ returns-2 c =
     let known = storing (stored c) in
     let find = known .before .before in
     let h = entry find .pre in
-    met-known (h .0) (h .1) (known .before .if1 .left) (find .find .ensures) (known .if2 .taken) _ _ _ (store .0) (store .1 .0) (store .1 .1)
+    met-known (h .0) (h .1) (omega (arith, known .before .if1 .left)) (find .find .ensures) (known .if2 .taken) _ _ _ (store .0) (store .1 .0) (store .1 .1)
+
+add-next-state : tie.Need-add-next-state
+add-next-state c = search needs
 
 same-length-6 : tie.Need-same-length-6
 same-length-6 c = search needs
@@ -77,7 +80,7 @@ returns-3 : tie.Need-returns-3
 returns-3 c =
     let find = c .before .before .before in
     let h = entry find .pre in
-    met-no-state (h .0) (h .1) _ (find .find .ensures) (c .before .if2 .left) (c .if3 .taken)
+    met-no-state (h .0) (h .1) _ (find .find .ensures) (c .before .if2 .left) (omega (arith, c .if3 .taken))
 
 cast-expression : tie.Need-cast-expression
 cast-expression c = search needs
@@ -106,12 +109,6 @@ cast-store-4 c = search needs
 store-requires-2 : tie.Need-store-requires-2
 store-requires-2 c κs = search needs
 
-add-t34 : tie.Need-add-t34
-add-t34 c = search needs
-
-add-t46 : tie.Need-add-t46
-add-t46 c = let room = new (stored-new c) .before .before in omega (arith, entry (room .before) .pre .0 .roomy .arcs-small, room .if1 .left)
-
 same-length-7 : tie.Need-same-length-7
 same-length-7 c = search needs
 
@@ -135,25 +132,26 @@ returns-4 c =
     let find = room .before in
     let h = entry find .pre in
     let flag = flagged (stored-new c) in
-    met-new (h .0) (h .1) (room .if1 .left) (find .find .ensures) (state .before .if2 .left) (state .if3 .left) _ _ _ _
+    met-new (h .0) (h .1) (omega (arith, room .if1 .left)) (find .find .ensures) (state .before .if2 .left) (omega (arith, state .if3 .left)) _ _ _ _
     (flag .flag .ensures ∙ ap (λ (y : Bool). cond y 1 0) (flag .before .empty-word .ensures)) (store .0) (store .1 .0) (store .1 .1)
 
 pub meet-spec : {M : Type 1} → statement M
 meet-spec =
     tie.close
     (tie.spec
+    add-next-arc
     find-requires
     same-length
     returns
     cast-store
     cast-store-2
     store-requires
-    add-t31
     same-length-2
     same-length-3
     same-length-4
     same-length-5
     returns-2
+    add-next-state
     same-length-6
     returns-3
     cast-expression
@@ -165,8 +163,6 @@ meet-spec =
     cast-store-3
     cast-store-4
     store-requires-2
-    add-t34
-    add-t46
     same-length-7
     same-length-8
     same-length-9
