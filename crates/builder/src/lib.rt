@@ -14,7 +14,7 @@ ghost use lib.ListN.{length};
 ghost use Rattle.theory.specs.Column.{zeros};
 ghost use Rattle.theory.specs.Refusal.{refusal, columns-differ};
 ghost use Rattle.theory.specs.Table.{table, table-refusal};
-ghost use Rattle.theory.specs.Build.{lent, Built, Cleared};
+ghost use Rattle.theory.specs.Build.{lent, Built};
 ghost use Rattle.table.specs.Checked.{Scanned};
 ghost use Rattle.builder.specs.Answer.{answer};
 
@@ -128,22 +128,6 @@ fn smaller(a: usize, b: usize) -> usize
 }
 
 // 01: "sets all lent output and work columns to zero".
-pub fn clear(
-    xkind: &mut [u8],
-    xleft: &mut [u16],
-    xright: &mut [u16],
-    expression: &mut [u16],
-    accepting: &mut [u8],
-    from: &mut [u16],
-    letter: &mut [u8],
-    to: &mut [u16],
-)
-    ensures { λ _. ⌜ Cleared (lent (table (now (xkind .entry)) (now (xleft .entry)) (now (xright .entry))) (now (expression .entry)) (now (accepting .entry)) (now (from .entry)) (now (letter .entry)) (now (to .entry))) (lent (table (now (xkind .exit)) (now (xleft .exit)) (now (xright .exit))) (now (expression .exit)) (now (accepting .exit)) (now (from .exit)) (now (letter .exit)) (now (to .exit))) ⌝ }
-{
-    clear_rows(xkind, xleft, xright);
-    clear_automaton(expression, accepting, from, letter, to);
-}
-
 fn clear_rows(xkind: &mut [u8], xleft: &mut [u16], xright: &mut [u16])
     ensures { λ _. ⌜ now (xkind .exit) ≡ zeros (length (now (xkind .entry))) ⌝ }
     ensures { λ _. ⌜ now (xleft .exit) ≡ zeros (length (now (xleft .entry))) ⌝ }
@@ -154,7 +138,7 @@ fn clear_rows(xkind: &mut [u8], xleft: &mut [u16], xright: &mut [u16])
     columns::clear16(xright);
 }
 
-fn clear_automaton(
+pub fn clear_automaton(
     expression: &mut [u16],
     accepting: &mut [u8],
     from: &mut [u16],

@@ -64,25 +64,11 @@ fn list(text: &[u8], block: &mut [u8]) -> usize
     requires { ⌜ 64 ≤ length (now block) ⌝ }
     ensures { λ r. ⌜ Counts r (now (block .exit)) ⌝ }
 {
-    let mut xkind = [0u8; 1024];
-    let mut xleft = [0u16; 1024];
-    let mut xright = [0u16; 1024];
-    let mut expression = [0u16; 512];
     let mut accepting = [0u8; 512];
     let mut from = [0u16; 4096];
     let mut letter = [0u8; 4096];
     let mut to = [0u16; 4096];
-    match site::automaton(
-        text,
-        &mut xkind,
-        &mut xleft,
-        &mut xright,
-        &mut expression,
-        &mut accepting,
-        &mut from,
-        &mut letter,
-        &mut to,
-    ) {
+    match site::automaton(text, &mut accepting, &mut from, &mut letter, &mut to) {
         Building::Refused { number, place } => output::refused(block, 0, number, place),
         Building::Built {
             states: state_count,

@@ -97,25 +97,11 @@ fn refuse(number: u8, place: usize) {
 fn start(text: &[u8], taken: &mut [u8], input: Input)
     requires { ⌜ Inside input (now taken) ⌝ }
 {
-    let mut xkind = [0u8; 1024];
-    let mut xleft = [0u16; 1024];
-    let mut xright = [0u16; 1024];
-    let mut expression = [0u16; 512];
     let mut accepting = [0u8; 512];
     let mut from = [0u16; 4096];
     let mut letter = [0u8; 4096];
     let mut to = [0u16; 4096];
-    match site::automaton(
-        text,
-        &mut xkind,
-        &mut xleft,
-        &mut xright,
-        &mut expression,
-        &mut accepting,
-        &mut from,
-        &mut letter,
-        &mut to,
-    ) {
+    match site::automaton(text, &mut accepting, &mut from, &mut letter, &mut to) {
         Building::Refused { number, place } => refuse(number, place),
         Building::Built {
             states,

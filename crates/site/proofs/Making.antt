@@ -9,7 +9,7 @@ use Rattle.theory.specs.Refusal.{Refusal, refusal}
 use Rattle.theory.specs.Table.{Table, Row, columns}
 use Rattle.theory.specs.Grammar.{Text, Reading, read, refused, rows}
 use Rattle.theory.specs.Read.{Read, Entered, entered, filled-part, column-of, Due}
-use Rattle.theory.specs.Build.{Lent, Counts, Built, Cleared, state-room, arc-room}
+use Rattle.theory.specs.Build.{Counts, Built, Cleared}
 use Rattle.theory.proofs.Expressed.{Expressed, expressed, filled-rows}
 use Rattle.theory.proofs.Filled.{filled-length}
 use Rattle.theory.proofs.Rows.{rows-length}
@@ -21,7 +21,7 @@ use Rattle.reader.specs.declared.Reading.the-variants.{Read as IsRead, Refused 
 use Rattle.builder.specs.Answer.{answer as counted-by}
 use Rattle.builder.specs.declared.Building.{Building}
 use Rattle.builder.specs.declared.Building.the-variants.{Built as IsBuilt}
-use Rattle.site.specs.Site.{Made, Makes, entry-columns, none-built}
+use Rattle.site.specs.Site.{entry-columns, expression-columns, state-column, Shown, beside, none-built, Makes, Made}
 
 -- What the reader's enum says.
 pub answered : {text : Text} {t t′ : Table} {r r′ : Enum.Reading} → r ≡ r′ → Read text t (entered-by r) t′ → Read text t (entered-by r′) t′
@@ -53,11 +53,14 @@ module _ {text : Text} {n : ℕ} {t′ : Table} (h : Read text entry-columns (en
           let same = ap length (e ∙ ap (λ (q : Reading). column-of field q 512) (read-as .is)) in
           omega (arith, read-as .fits, counted)
 
-  pub made-built : {c : Lent} {answer : Counts} {c′ : Lent} → Built (filled-part (entered-by (IsRead n)) t′) c answer c′ → Made text c answer c′
-  made-built {c} {answer} {c′} b = record {
+  pub made-built : {rows : Table} {expression : List ℕ} {s s′ : Shown} {answer : Counts}
+      → Built (filled-part (entered-by (IsRead n)) t′) (beside expression-columns state-column s) answer (beside rows expression s′) → Made text s answer s′
+  made-built {rows} {expression} {s} {s′} {answer} b = record {
     reading = read (read-as .expression);
     due = subst (Due text entry-columns) (read-as .is) (h .due);
-    makes = subst (λ (g : Table). Built g c answer c′) (filled-rows h read-as) b;
+    rows = rows;
+    expression = expression;
+    makes = subst (λ (g : Table). Built g (beside expression-columns state-column s) answer (beside rows expression s′)) (filled-rows h read-as) b;
   }
 
 -- ---- Where it was refused
@@ -66,22 +69,27 @@ refused-as : (q : Reading) (r : Refusal) → record { refusal = r; entries = 0 }
 refused-as (read e) r s = let p = entries-positive e in let z = ap (λ (a : Entered). a .entries) s in absurd (omega arith)
 refused-as (refused r′) r s = ap refused (sym (ap (λ (a : Entered). a .refusal) s))
 
-pub made-refused : {text : Text} {number place : ℕ} {t′ : Table} {c c′ : Lent} → Read text entry-columns (entered-by (IsRefused number place)) t′
-    → Cleared c c′ → Made text c (none-built (refusal number place)) c′
-made-refused {text} {number} {place} h k = record {
+pub made-refused : {text : Text} {number place : ℕ} {t′ : Table} {expression : List ℕ} {s s′ : Shown}
+    → Read text entry-columns (entered-by (IsRefused number place)) t′
+    → Cleared (beside expression-columns state-column s) (beside expression-columns expression s′) → Made text s (none-built (refusal number place)) s′
+made-refused {text} {number} {place} {t′} {expression} h k = record {
   reading = refused (refusal number place);
   due = subst (Due text entry-columns) (refused-as (h .reading) (refusal number place) (h .answers)) (h .due);
+  rows = expression-columns;
+  expression = expression;
   makes = (refl, k);
 }
 
 -- ---- What a program that goes on with the automaton may rely on
 
-pub built-within : {text : Text} {r : Building} {s x a : ℕ} {c c′ : Lent} → r ≡ IsBuilt s x a → Made text c (counted-by r) c′
-    → (s ≤ state-room c) × (a ≤ arc-room c)
-built-within {text} {r} {s} {x} {a} {c} {c′} e h = go (h .reading) (subst (λ (b : Building). Makes (h .reading) c (counted-by b) c′) e (h .makes))
+pub built-within : {text : Text} {r : Building} {n x a : ℕ} {s s′ : Shown} → r ≡ IsBuilt n x a → Made text s (counted-by r) s′
+    → (n ≤ 512) × (a ≤ length (s .from))
+built-within {text} {r} {n} {x} {a} {s} {s′} e h =
+    go (h .reading) (subst (λ (b : Building). Makes (h .reading) (beside expression-columns state-column s) (counted-by b) (beside (h .rows) (h .expression) s′)) e (h .makes))
   where
-    go : (q : Reading) → Makes q c (counted-by (IsBuilt s x a)) c′ → (s ≤ state-room c) × (a ≤ arc-room c)
-    go (read e) b = counts-within b refl
+    go : (q : Reading) → Makes q (beside expression-columns state-column s) (counted-by (IsBuilt n x a)) (beside (h .rows) (h .expression) s′)
+        → (n ≤ 512) × (a ≤ length (s .from))
+    go (read e) b = let l = counts-within b refl in (omega (arith, l .0), omega (arith, l .1))
     go (refused r) (z, k) =
         let states = ap (λ (n : Counts). n .states) z in
         let arcs = ap (λ (n : Counts). n .arcs) z in (omega arith, omega arith)

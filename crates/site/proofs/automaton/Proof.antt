@@ -1,6 +1,6 @@
 -- `automaton` meets its contract: read, then built or cleared.
 use borrow.Author.Needs.{needs}
-use mathlib.Core.Path.{sym}
+use mathlib.Core.Path.{refl, sym}
 use lib.Seq.{length-take-le}
 use Rattle.theory.specs.Table.{table}
 use Rattle.theory.specs.Read.{Read}
@@ -17,7 +17,7 @@ abbrev of-read : tie.After-right2 → tie.After-read
 of-read c = c .before .before .before
 
 abbrev entry : tie.After-right2 → tie.Start
-entry c = of-read c .before .before .before .before .before .before .before .before .before .before .before .before .before
+entry c = of-read c .before .before .before .before .before .before .before .before .before
 
 -- what the reader promised, where it read entries
 entered : (c : tie.After-entries)
@@ -27,16 +27,16 @@ entered c = answered (c .entries .given .1) (of-read (c .before .before) .read .
 
 -- ---- The places behind each of the two calls: that call, and the case of the match that it stands in
 
-abbrev cleared : tie.After-slice-known16 → tie.After-clear
-cleared c = c .before .before .before .before .before .before .before .before .before .before .before .before .before .before .before .before
+abbrev cleared : tie.After-slice-known8 → tie.After-clear-automaton
+cleared c = c .before .before .before .before .before .before .before .before .before
 
-abbrev refused : tie.After-slice-known16 → tie.After-number
-refused c = cleared c .before .before .before .before .before .before .before .before .before .before
+abbrev refused : tie.After-slice-known8 → tie.After-number
+refused c = cleared c .before .before .before .before .before .before .before
 
-abbrev built : tie.After-slice-known24 → tie.After-build
-built c = c .before .before .before .before .before .before .before .before .before .before .before .before .before .before .before .before
+abbrev built : tie.After-slice-known12 → tie.After-build
+built c = c .before .before .before .before .before .before .before .before .before .before .before .before
 
-abbrev taken : tie.After-slice-known24 → tie.After-entries
+abbrev taken : tie.After-slice-known12 → tie.After-entries
 taken c = built c .before .before .before .before .before .before .before .before .before .before .before .before .before
 
 -- ---- The needs
@@ -56,8 +56,11 @@ read-requires c κs = search needs
 enum-known-number : tie.Need-enum-known-number
 enum-known-number c = search needs
 
-clear-requires : tie.Need-clear-requires
-clear-requires c κs = search needs
+slice-aggregate-clear-automaton : tie.Need-slice-aggregate-clear-automaton
+slice-aggregate-clear-automaton c = search needs
+
+clear-automaton-requires : tie.Need-clear-automaton-requires
+clear-automaton-requires c κs = search needs
 
 enum-known-entries : tie.Need-enum-known-entries
 enum-known-entries c = search needs
@@ -80,6 +83,18 @@ array-share-prefix-right c = within (entered (c .before .before .before)) .right
 slice-aggregate-build-3 : tie.Need-slice-aggregate-build-3
 slice-aggregate-build-3 c = sym (length-take-le _ _ (within (entered (c .before .before .before .before)) .right))
 
+slice-aggregate-build-4 : tie.Need-slice-aggregate-build-4
+slice-aggregate-build-4 c = search needs
+
+slice-aggregate-build-5 : tie.Need-slice-aggregate-build-5
+slice-aggregate-build-5 c = search needs
+
+slice-aggregate-build-6 : tie.Need-slice-aggregate-build-6
+slice-aggregate-build-6 c = search needs
+
+slice-aggregate-build-7 : tie.Need-slice-aggregate-build-7
+slice-aggregate-build-7 c = search needs
+
 build-requires : tie.Need-build-requires
 build-requires c κs = search needs
 
@@ -95,6 +110,21 @@ same-length-3 c = search needs
 same-length-4 : tie.Need-same-length-4
 same-length-4 c = search needs
 
+returns : tie.Need-returns
+returns c =
+    let zero = cleared c .clear-automaton .ensures in
+    made-refused (answered (refused c .number .given .1) (of-read (refused c .before .before) .read .ensures))
+    (record {
+      kind = refl;
+      left = refl;
+      right = refl;
+      expression = zero .0;
+      accepting = zero .1 .0;
+      from = zero .1 .1 .0;
+      letter = zero .1 .1 .1 .0;
+      to = zero .1 .1 .1 .1;
+    })
+
 same-length-5 : tie.Need-same-length-5
 same-length-5 c = search needs
 
@@ -106,34 +136,6 @@ same-length-7 c = search needs
 
 same-length-8 : tie.Need-same-length-8
 same-length-8 c = search needs
-
-returns : tie.Need-returns
-returns c =
-    made-refused (answered (refused c .number .given .1) (of-read (refused c .before .before) .read .ensures)) (cleared c .clear .ensures)
-
-same-length-9 : tie.Need-same-length-9
-same-length-9 c = search needs
-
-same-length-10 : tie.Need-same-length-10
-same-length-10 c = search needs
-
-same-length-11 : tie.Need-same-length-11
-same-length-11 c = search needs
-
-same-length-12 : tie.Need-same-length-12
-same-length-12 c = search needs
-
-same-length-13 : tie.Need-same-length-13
-same-length-13 c = search needs
-
-same-length-14 : tie.Need-same-length-14
-same-length-14 c = search needs
-
-same-length-15 : tie.Need-same-length-15
-same-length-15 c = search needs
-
-same-length-16 : tie.Need-same-length-16
-same-length-16 c = search needs
 
 returns-2 : tie.Need-returns-2
 returns-2 c = made-built (entered (taken c)) (built c .build .ensures)
@@ -147,7 +149,8 @@ automaton-spec =
     slice-aggregate-read-3
     read-requires
     enum-known-number
-    clear-requires
+    slice-aggregate-clear-automaton
+    clear-automaton-requires
     enum-known-entries
     array-share-prefix-kind
     slice-aggregate-build
@@ -155,22 +158,18 @@ automaton-spec =
     slice-aggregate-build-2
     array-share-prefix-right
     slice-aggregate-build-3
+    slice-aggregate-build-4
+    slice-aggregate-build-5
+    slice-aggregate-build-6
+    slice-aggregate-build-7
     build-requires
     same-length
     same-length-2
     same-length-3
     same-length-4
+    returns
     same-length-5
     same-length-6
     same-length-7
     same-length-8
-    returns
-    same-length-9
-    same-length-10
-    same-length-11
-    same-length-12
-    same-length-13
-    same-length-14
-    same-length-15
-    same-length-16
     returns-2)
