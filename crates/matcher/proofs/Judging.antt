@@ -5,12 +5,12 @@ use mathlib.Core.Bool.{Bool, true, false, cond, not, _||_}
 use mathlib.Core.List.{List}
 use lib.ListN.{length, getD}
 use lib.Dec.{eqb}
-use borrow.Author.Tests.{eq-eqb, ne-eqb}
 use Rattle.theory.specs.Column.{zeros}
 use Rattle.theory.specs.Language.{Word}
 use Rattle.theory.specs.Refusal.{refusal, success, columns-differ, automaton-malformed, work-short}
 use Rattle.theory.specs.Record.{Handed, start, well-formed, verdict, live, matcher-refusal}
 use Rattle.theory.specs.Judge.{Judgement, given, withheld, judgement}
+use Rattle.theory.proofs.Answers.{judgement-given, judgement-refused}
 use Rattle.matcher.specs.Bits.{bit}
 use Rattle.matcher.specs.Moves.{Checked, Ready}
 use Rattle.matcher.proofs.Words.{bit-zeros}
@@ -61,15 +61,8 @@ place-zero h m n = go (not (alike h)) (not (well-formed h)) (short h m n)
     go false false false = refl
 
 module _ (h : Handed) (m n : ℕ) (w : Word) {number : ℕ} (e : number ≡ (matcher-refusal h m n) .number) where
-  chosen : (d : Bool) → eqb ((matcher-refusal h m n) .number) 0 ≡ d
-      → elim d [ true ↦ given (verdict h w) (live h w) | false ↦ withheld (matcher-refusal h m n) ] ≡ judgement h m n w
-  unfolding judgement
-  chosen d q = ap (λ (b : Bool). elim b [ true ↦ given (verdict h w) (live h w) | false ↦ withheld (matcher-refusal h m n) ]) (sym q)
-
   pub judged-refused : (number ≡ 0 → ⊥) → withheld (refusal number 0) ≡ judgement h m n w
-  judged-refused ne =
-      ap withheld (ap₂ refusal e (sym (place-zero h m n)))
-      ∙ chosen false (ne-eqb ((matcher-refusal h m n) .number) 0 (λ q. ne (e ∙ q)))
+  judged-refused ne = ap withheld (ap₂ refusal e (sym (place-zero h m n))) ∙ sym (judgement-refused h m n w (λ q. ne (e ∙ q)))
 
   pub judged-given : number ≡ 0 → {answer : Judgement} → answer ≡ given (verdict h w) (live h w) → answer ≡ judgement h m n w
-  judged-given z a = a ∙ chosen true (eq-eqb ((matcher-refusal h m n) .number) 0 (sym e ∙ z))
+  judged-given z a = a ∙ sym (judgement-given h m n w (sym e ∙ z))

@@ -6,7 +6,8 @@ use mathlib.Core.List.{List}
 use mathlib.Core.Option.{Option, none, some}
 use lib.ListN.{length, getD}
 use Rattle.theory.specs.Language.{Word}
-use Rattle.theory.specs.Record.{Handed, words, start, reached, dead-at}
+use Rattle.theory.specs.Record.{Handed, handed, words, start, reached, dead-at, verdict, live}
+use Rattle.theory.specs.Judge.{Judgement, given}
 use Rattle.matcher.specs.Bits.{bit}
 use Rattle.matcher.specs.declared.moves.Walked.{Walked}
 use Rattle.matcher.specs.declared.moves.Walked.the-variants.{Whole, Dead}
@@ -45,3 +46,9 @@ place-of (Dead p) = some p
 pub record Ended (h : Handed) (w : Word) (r : Walked) (current : List ℕ) : Type 0 where
   pub place : place-of r ≡ dead-at h start 0 w
   pub set : r ≡ Whole → (t : ℕ) → bit current t ≡ reached h w t
+
+-- What a walk's end says of an automaton that is not refused, whatever its arcs and the record: the verdict with live.
+abbrev pub Answers : ℕ → List ℕ → Walked → List ℕ → Judgement → Type 0
+Answers states accepting walked current answer =
+    (arcs : ℕ) (from letter to : List ℕ) (current₀ next₀ : List ℕ) → Checked states arcs from letter to current₀ next₀ → (w : Word)
+    → let h = handed states accepting arcs from letter to in Ended h w walked current → answer ≡ given (verdict h w) (live h w)

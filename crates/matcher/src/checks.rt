@@ -37,23 +37,24 @@ fn ends_fit(states: usize, arcs: usize, from: &[u16], letter: &[u8], to: &[u16])
     fit
 }
 
-// The number of the refusal, or 0. The work columns have `current` and `next` words.
-pub fn refusal(
-    states: usize,
-    accepting: &[u8],
-    arcs: usize,
-    from: &[u16],
-    letter: &[u8],
-    to: &[u16],
-    current: usize,
-    next: usize,
-) -> u8
+// The state count, the arc count, and the words of the two work columns.
+pub struct Sizes {
+    pub states: usize,
+    pub arcs: usize,
+    pub current: usize,
+    pub next: usize,
+}
+
+// The number of the refusal, or 0.
+pub fn refusal(sizes: Sizes, accepting: &[u8], from: &[u16], letter: &[u8], to: &[u16]) -> u8
     ensures { λ r.
         ⌜ r
         ≡ (matcher-refusal
-        (handed states (now (accepting .entry)) arcs (now (from .entry)) (now (letter .entry)) (now (to .entry)))
-        current next) .number ⌝ }
+        (handed (sizes .states) (now (accepting .entry)) (sizes .arcs) (now (from .entry)) (now (letter .entry)) (now (to .entry)))
+        (sizes .current) (sizes .next)) .number ⌝ }
 {
+    let states = sizes.states;
+    let arcs = sizes.arcs;
     let alike = (letter.len() == from.len()) & (to.len() == from.len());
     if !alike {
         return 1;
@@ -67,7 +68,7 @@ pub fn refusal(
         return 10;
     }
     let words = (states + 63) / 64;
-    if (current < words) | (next < words) {
+    if (sizes.current < words) | (sizes.next < words) {
         return 11;
     }
     0

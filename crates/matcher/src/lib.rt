@@ -43,32 +43,20 @@ pub fn judge(
         ⌜ Judged (handed states (now (accepting .entry)) arcs (now (from .entry)) (now (letter .entry)) (now (to .entry)))
         (now («record» .entry)) (now (current .entry)) (now (next .entry)) (values r) (now (current .exit)) (now (next .exit)) ⌝ }
 {
-    let number = checks::refusal(
+    let sizes = checks::Sizes {
         states,
-        accepting,
         arcs,
-        from,
-        letter,
-        to,
-        current.len(),
-        next.len(),
-    );
+        current: current.len(),
+        next: next.len(),
+    };
+    let number = checks::refusal(sizes, accepting, from, letter, to);
     clear(current, next);
     if number != 0 {
         return Judgement::Refused { number };
     }
     bits::mark(current, 0);
-    let answer = moves::follow(
-        states,
-        accepting,
-        arcs,
-        from,
-        letter,
-        to,
-        record,
-        current,
-        next,
-    );
+    let walked = moves::walk(states, arcs, from, letter, to, record, current, next);
+    let answer = moves::answer(walked, states, accepting, current);
     clear(current, next);
     answer
 }

@@ -8,10 +8,9 @@ ghost use mathlib.Core.List.{List};
 ghost use Prim.Native.Nat.{ℕ, _≤_};
 ghost use lib.ListN.{length, getD};
 ghost use lib.Dec.{eqb};
-ghost use Rattle.theory.specs.Record.{handed, words, some-below, leads, verdict, live};
-ghost use Rattle.theory.specs.Judge.{given};
+ghost use Rattle.theory.specs.Record.{handed, words, some-below, leads};
 ghost use Rattle.matcher.specs.Bits.{bit};
-ghost use Rattle.matcher.specs.Moves.{Inside, Checked, Ready, Ended};
+ghost use Rattle.matcher.specs.Moves.{Inside, Checked, Ready, Ended, Answers};
 ghost use Rattle.matcher.specs.Answer.{values};
 
 // One pass over the arcs: the ends of those that lead by the byte from a state of `current` are set in `next`.
@@ -49,7 +48,7 @@ pub enum Walked {
 }
 
 // Whatever the accepting column, which no move looks at.
-fn walk(
+pub fn walk(
     states: usize,
     arcs: usize,
     from: &[u16],
@@ -95,29 +94,12 @@ fn accepts(states: usize, accepting: &[u8], current: &[u64]) -> bool
     any
 }
 
-pub fn follow(
-    states: usize,
-    accepting: &[u8],
-    arcs: usize,
-    from: &[u16],
-    letter: &[u8],
-    to: &[u16],
-    record: &[u8],
-    current: &mut [u64],
-    next: &mut [u64],
-) -> super::Judgement
-    requires { ⌜ states ≤ length (now accepting) ⌝ }
-    requires { ⌜ Checked states arcs (now from) (now letter) (now to) (now current) (now next) ⌝ }
-    requires { ⌜ Ready (now current) (now next) ⌝ }
-    ensures { λ r.
-        ⌜ values r
-        ≡ given
-        (verdict (handed states (now (accepting .entry)) arcs (now (from .entry)) (now (letter .entry)) (now (to .entry)))
-        (now («record» .entry)))
-        (live (handed states (now (accepting .entry)) arcs (now (from .entry)) (now (letter .entry)) (now (to .entry)))
-        (now («record» .entry))) ⌝ }
+// What the end of a walk says, whatever the arcs and the record that it went along.
+pub fn answer(walked: Walked, states: usize, accepting: &[u8], current: &[u64]) -> super::Judgement
+    requires { ⌜ (states ≤ 65535) × (states ≤ length (now accepting)) × (words states ≤ length (now current)) ⌝ }
+    ensures { λ r. ⌜ Answers states (now (accepting .entry)) walked (now (current .entry)) (values r) ⌝ }
 {
-    match walk(states, arcs, from, letter, to, record, current, next) {
+    match walked {
         Walked::Dead { place } => super::Judgement::Wrong { place },
         Walked::Whole => {
             // 01: `live` is "the number of set state bits after the last byte".

@@ -3,9 +3,9 @@
 use Prim.Native.Nat.{ℕ, _+_, _-_, _≤_, _<_, pred}
 use native.Mathlib.Nat.{eq-or-lt-of-le}
 use native.Mathlib.Omega.{arith}
-use mathlib.Core.Path.{_≡_, refl, sym, ap, _∙_, subst}
+use mathlib.Core.Path.{_≡_, sym, ap, _∙_}
 use mathlib.Core.Logic.{inl, inr}
-use mathlib.Core.List.{[], _∷_}
+use mathlib.Core.List.{List, [], _∷_}
 use mathlib.Core.Option.{Option, none, some}
 use lib.ListN.{length, getD}
 use Rattle.theory.specs.Expression.{Expression, star, entries}
@@ -18,10 +18,10 @@ use Rattle.theory.proofs.Rows.Trees.{rows-length, entries-positive}
 use Rattle.columns.specs.declared.Cursor.{Cursor}
 use Rattle.reader.specs.declared.entries.Found.{Found}
 use Rattle.reader.specs.declared.entries.Found.the-variants.{Value, Refused}
-use Rattle.reader.specs.Found.{laid, Entry, leaf-of, Leaf, scan-at, Start, May-begin, Behind, Answered}
+use Rattle.reader.specs.Found.{laid, Entry, leaf-of, scan-at, Start, May-begin, Behind, Answered}
 use Rattle.reader.proofs.Leaf.{leaf-next, leaf-none, leaf-makes, leaf-entries}
 use Rattle.reader.proofs.Laid.{laid-append}
-use Rattle.reader.proofs.Stepped.{Stepped}
+use Rattle.reader.proofs.Stepped.{Stepped, byte-before}
 
 -- The row of a star over the last row made.
 abbrev pub star-row : ℕ → Row
@@ -42,39 +42,41 @@ module _ (room : ℕ) (text : Text) where
   unfolding finish
   end-answers s l fs d = at-end room text (s .at) (s .made) (before fs) l
 
-  pub leaf-answers : (s : Start) → May-begin room text s → (byte : ℕ) (cursor : Cursor) → Stepped text (s .at) byte cursor → (byte ≡ byte-open → ⊥)
-      → (r : Found) (t′ : Table) → Leaf (leaf-of (token byte)) room (s .at) (s .made) cursor (s .columns) r t′ → Answered room text s r t′
-  unfolding open-at
-  leaf-answers s b byte cursor i n r t′ h = go (leaf-of (token byte)) refl r h
-    where
-      l : s .at < length text
-      l = i .inside
+  module _ (s : Start) (b : May-begin room text s) {byte : ℕ} {cursor : Cursor} (i : Stepped text (s .at) byte cursor) where
+    leaf-here : {o : Option Expression} → leaf-of (token byte) ≡ o → leaf-of (token (getD text (s .at) 0)) ≡ o
+    leaf-here e = rw (i .here) e
 
-      leaf-here : {o : Option Expression} → leaf-of (token byte) ≡ o → leaf-of (token (getD text (s .at) 0)) ≡ o
-      leaf-here e = rw (i .here) e
+    pub leaf-refused : (byte ≡ byte-open → ⊥) → leaf-of (token byte) ≡ none → Answered room text s (Refused not-grammar (s .at)) (s .columns)
+    leaf-refused n e fs d =
+        at-broken room text (s .at) (s .made) (before fs) (i .inside)
+        (leaf-none fs (getD text (s .at) 0) (leaf-here e) (λ z. n (sym (i .here) ∙ z)) (λ z. b .no-zero (sym d ∙ z)))
 
-      go : (o : Option Expression) → leaf-of (token byte) ≡ o → (r : Found) → Leaf o room (s .at) (s .made) cursor (s .columns) r t′
-          → Answered room text s r t′
-      go none e r h = subst (λ (f : Found). Answered room text s f t′) (sym h)
-          (λ fs d. at-broken room text (s .at) (s .made) (before fs) l (leaf-none fs (getD text (s .at) 0) (leaf-here e) (λ z. n (sym (i .here) ∙ z)) (λ z. b .no-zero (sym d ∙ z))))
-      go (some x) e (Value made′ cursor′) h =
-          let next-at : cursor′ .at ≡ s .at + 1 = ap (λ (q : Cursor). q .at) (h .2) ∙ i .next in
-          let one = leaf-entries (token byte) x e in
-          let fits = h .0 in
-          let more = h .1 in
-          let shallow = b .shallow in
-          record {
-            expression = x;
-            reads = λ fs d. rw (next-at, more) (at-entry room text (s .at) (s .made) (before fs) l (behind x fs) (leaf-next fs (token (getD text (s .at) 0)) x (leaf-here e)) (omega arith) (leaf-makes (getD text (s .at) 0) x (leaf-here e)) (h .0));
-            shallow = b .shallow;
-            onward = omega arith;
-            within = omega arith;
-            counted = omega arith;
-            fits = omega arith;
-            laid-out = h .3;
-          }
-      go (some x) e (Refused number place) h = λ fs d.
-          rw (h .1, h .2) (at-many room text (s .at) (s .made) (before fs) l (behind x fs) (leaf-next fs (token (getD text (s .at) 0)) x (leaf-here e)) (omega (arith, b .shallow)) (leaf-makes (getD text (s .at) 0) x (leaf-here e)) (h .0))
+    pub leaf-made : (w : Row) (x : Expression) → leaf-of (token byte) ≡ some x → rows (s .made) x ≡ w ∷ [] → (r : Found) (t′ : Table)
+        → Entry room (s .made) cursor (w ∷ []) (s .columns) r t′ → Answered room text s r t′
+    unfolding open-at
+    leaf-made w x e q (Value made′ cursor′) t′ h =
+        let next-at : cursor′ .at ≡ s .at + 1 = ap (λ (c : Cursor). c .at) (h .2) ∙ i .next in
+        let one = leaf-entries (token byte) x e in
+        let inside = i .inside in
+        let fits = h .0 in
+        let more = h .1 in
+        let shallow = b .shallow in
+        record {
+          expression = x;
+          reads = λ fs d. rw (next-at, more)
+              (at-entry room text (s .at) (s .made) (before fs) (i .inside) (behind x fs) (leaf-next fs (token (getD text (s .at) 0)) x (leaf-here e)) (omega arith)
+              (leaf-makes (getD text (s .at) 0) x (leaf-here e)) (h .0));
+          shallow = b .shallow;
+          onward = omega arith;
+          within = omega arith;
+          counted = omega arith;
+          fits = omega arith;
+          laid-out = h .3 ∙ ap (λ (ws : List Row). laid (s .made) ws (s .columns)) (sym q);
+        }
+    leaf-made w x e q (Refused number place) t′ h = λ fs d.
+        rw (h .1, h .2 ∙ byte-before i)
+        (at-many room text (s .at) (s .made) (before fs) (i .inside) (behind x fs) (leaf-next fs (token (getD text (s .at) 0)) x (leaf-here e)) (omega (arith, b .shallow))
+        (leaf-makes (getD text (s .at) 0) x (leaf-here e)) (h .0))
 
   -- ---- A star
 
@@ -85,17 +87,18 @@ module _ (room : ℕ) (text : Text) where
       let last : base + entries x - 1 ≡ base + pred (entries x) = omega (arith, entries-positive x) in
       sym (laid-append base (rows base x) (record { kind = 6; left = base + pred (entries x); right = 0 } ∷ []) t ∙ rw (rows-length, last))
 
-  pub star-answers : (s : Start) (at made : ℕ) (t : Table) → Behind room text s at made t → at < length text → getD text at 0 ≡ byte-*
-      → (cursor : Cursor) → cursor .at ≡ at + 1 → (r : Found) (t′ : Table)
-      → Entry room at made cursor (star-row made ∷ []) t r t′ → Answered room text s r t′
+  pub star-answers : (s : Start) (at made : ℕ) (t : Table) → Behind room text s at made t → (byte : ℕ) (cursor : Cursor)
+      → Stepped text at byte cursor → byte ≡ byte-* → (r : Found) (t′ : Table)
+      → Entry room made cursor (star-row made ∷ []) t r t′ → Answered room text s r t′
   unfolding open-at entries makes-entry
-  star-answers s at made t x l e cursor p (Value made′ cursor′) t′ h =
-      let next-at : cursor′ .at ≡ at + 1 = ap (λ (q : Cursor). q .at) (h .2) ∙ p in
+  star-answers s at made t x byte cursor i b (Value made′ cursor′) t′ h =
+      let next-at : cursor′ .at ≡ at + 1 = ap (λ (q : Cursor). q .at) (h .2) ∙ i .next in
+      let l = i .inside in
       let fits = h .0 in
       let more = h .1 in
       record {
         expression = star (x .expression);
-        reads = λ fs d. x .reads fs d ∙ rw (next-at, more) (at-entry room text at made (behind (x .expression) fs) l (behind (star (x .expression)) fs) (behind-star (x .expression) fs (getD text at 0) e) (omega (arith, x .shallow)) (rw e) (h .0));
+        reads = λ fs d. x .reads fs d ∙ rw (next-at, more) (at-entry room text at made (behind (x .expression) fs) l (behind (star (x .expression)) fs) (behind-star (x .expression) fs (getD text at 0) (i .here ∙ b)) (omega (arith, x .shallow)) (rw (i .here ∙ b)) (h .0));
         shallow = x .shallow;
         onward = omega (arith, x .onward);
         within = omega arith;
@@ -103,8 +106,8 @@ module _ (room : ℕ) (text : Text) where
         fits = omega arith;
         laid-out = h .3 ∙ rw (x .laid-out, x .counted) (star-laid (s .made) (x .expression) (s .columns));
       }
-  star-answers s at made t x l e cursor p (Refused number place) t′ h = λ fs d.
-      x .reads fs d ∙ rw (h .1, h .2) (at-many room text at made (behind (x .expression) fs) l (behind (star (x .expression)) fs) (behind-star (x .expression) fs (getD text at 0) e) (omega (arith, x .shallow)) (rw e) (h .0))
+  star-answers s at made t x byte cursor i b (Refused number place) t′ h = λ fs d.
+      x .reads fs d ∙ rw (h .1, h .2 ∙ byte-before i) (at-many room text at made (behind (x .expression) fs) (i .inside) (behind (star (x .expression)) fs) (behind-star (x .expression) fs (getD text at 0) (i .here ∙ b)) (omega (arith, x .shallow)) (rw (i .here ∙ b)) (h .0))
 
   pub behind-positive : {s : Start} {at made : ℕ} {t : Table} → Behind room text s at made t → 0 < made
   behind-positive x = omega (arith, x .counted, entries-positive (x .expression))

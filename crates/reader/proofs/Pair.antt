@@ -64,15 +64,19 @@ module _ {room : ℕ} {text : Text} {s : Start} (b : May-begin room text s) {byt
 abbrev pub within-pair : Start → (at made : ℕ) → Table → Start
 within-pair s at made t = start (s .depth + 1) at made t
 
-pub record Left (room : ℕ) (text : Text) (s : Start) (at made : ℕ) (t : Table) : Type 0 where
+-- The left expression lies before place `at`: the scan stands there as `stand` says, and the rows are made, the last of them row `made` - 1.
+pub record Half (room : ℕ) (text : Text) (s : Start) (stand : Expression → List Frame → Stand) (at made : ℕ) (t : Table) : Type 0 where
   pub expression : Expression
-  pub comes : Comes room text s at made (λ fs. behind expression (opened ∷ fs))
+  pub comes : Comes room text s at made (stand expression)
   pub shallow : s .depth < 64
   pub onward : s .at < at
   pub within : at ≤ length text
   pub counted : made ≡ s .made + entries expression
   pub fits : made ≤ room
   pub laid-out : t ≡ laid (s .made) (rows (s .made) expression) (s .columns)
+
+pub record Left (room : ℕ) (text : Text) (s : Start) (at made : ℕ) (t : Table) : Type 0 where
+  pub half : Half room text s (λ x fs. behind x (opened ∷ fs)) at made t
   pub unstarred : getD text at 0 ≡ byte-* → ⊥
 
 module _ {room : ℕ} {text : Text} {s : Start} {at₀ : ℕ} (i : Inside room text s at₀) where
@@ -86,14 +90,16 @@ module _ {room : ℕ} {text : Text} {s : Start} {at₀ : ℕ} (i : Inside room t
       → Left room text s at made t
   left x n =
       record {
-        expression = x .expression;
-        comes = λ fs e. i .comes fs e ∙ x .reads (opened ∷ fs) (omega arith);
-        shallow = i .shallow;
-        onward = omega (arith, i .onward, x .onward);
-        within = x .within;
-        counted = x .counted;
-        fits = x .fits;
-        laid-out = x .laid-out;
+        half = record {
+          expression = x .expression;
+          comes = λ fs e. i .comes fs e ∙ x .reads (opened ∷ fs) (omega arith);
+          shallow = i .shallow;
+          onward = omega (arith, i .onward, x .onward);
+          within = x .within;
+          counted = x .counted;
+          fits = x .fits;
+          laid-out = x .laid-out;
+        };
         unstarred = n;
       }
 
@@ -105,53 +111,49 @@ sign-makes union = refl
 sign-makes concatenation = refl
 sign-makes shuffle = refl
 
--- Behind the sign: the left expression's rows stand in the columns, the last of them row `made` - 1.
 pub record Signed (room : ℕ) (text : Text) (s : Start) (kind at made : ℕ) (t : Table) : Type 0 where
-  pub expression : Expression
   pub sign : Sign
-  pub comes : Comes room text s at made (λ fs. before (signed expression sign ∷ fs))
   pub kind-is : kind ≡ kind-of-sign sign
-  pub shallow : s .depth < 64
-  pub onward : s .at < at
-  pub within : at ≤ length text
-  pub counted : made ≡ s .made + entries expression
-  pub fits : made ≤ room
-  pub laid-out : t ≡ laid (s .made) (rows (s .made) expression) (s .columns)
+  pub half : Half room text s (λ x fs. before (signed x sign ∷ fs)) at made t
 
 module _ {room : ℕ} {text : Text} {s : Start} {at made : ℕ} {t : Table} (x : Left room text s at made t) where
   pub sign-refused : {number place : ℕ} (t′ : Table) (r : Found) → r ≡ Refused number place → Sign-at text at r → Answered room text s r t′
   unfolding finish
   sign-refused {number} {place} t′ r q h =
+      let y = x .half in
       let k : Sign-at text at (Refused number place) = subst (Sign-at text at) q h in
       subst (λ (r′ : Found). Answered room text s r′ t′) (sym q)
       (λ fs e.
-      x .comes fs e
+      y .comes fs e
       ∙ rw (k .0, k .1)
-      (stuck-here room text at made (behind (x .expression) (opened ∷ fs)) (x .within)
-      (λ l. behind-unsigned (x .expression) fs (getD text at 0) (x .unstarred) (λ g. k .2 g l)) refl))
+      (stuck-here room text at made (behind (y .expression) (opened ∷ fs)) (y .within)
+      (λ l. behind-unsigned (y .expression) fs (getD text at 0) (x .unstarred) (λ g. k .2 g l)) refl))
 
   pub signed-on : {kind : ℕ} {cursor : Cursor} → Sign-at text at (Value kind cursor) → Signed room text s kind (cursor .at) made t
   unfolding open-at
   signed-on {kind} {cursor} h =
-      let shallow = x .shallow in
+      let y = x .half in
+      let shallow = y .shallow in
       let next-at = h .4 in
       let before-end = h .1 in
-      let onward = x .onward in
+      let onward = y .onward in
       record {
-        expression = x .expression;
         sign = h .0;
-        comes = λ fs e.
-            x .comes fs e
-            ∙ rw next-at
-            (at-mark room text at made (behind (x .expression) (opened ∷ fs)) (h .1) (before (signed (x .expression) (h .0) ∷ fs))
-            (behind-sign (x .expression) (h .0) fs (getD text at 0) (h .2)) (omega arith) (rw (h .2) (sign-makes (h .0))) (x .fits));
         kind-is = h .3;
-        shallow = x .shallow;
-        onward = omega arith;
-        within = omega arith;
-        counted = x .counted;
-        fits = x .fits;
-        laid-out = x .laid-out;
+        half = record {
+          expression = y .expression;
+          comes = λ fs e.
+              y .comes fs e
+              ∙ rw next-at
+              (at-mark room text at made (behind (y .expression) (opened ∷ fs)) (h .1) (before (signed (y .expression) (h .0) ∷ fs))
+              (behind-sign (y .expression) (h .0) fs (getD text at 0) (h .2)) (omega arith) (rw (h .2) (sign-makes (h .0))) (y .fits));
+          shallow = y .shallow;
+          onward = omega arith;
+          within = omega arith;
+          counted = y .counted;
+          fits = y .fits;
+          laid-out = y .laid-out;
+        };
       }
 
 pub signed-kind : {room : ℕ} {text : Text} {s : Start} {kind at made : ℕ} {t : Table} → Signed room text s kind at made t → kind ≤ 5
@@ -189,12 +191,12 @@ module _ {room : ℕ} {text : Text} {s : Start} {kind at made : ℕ} {t : Table}
   right-refused {number} {place} t′ r q h =
       subst (λ (r′ : Found). Answered room text s r′ t′) (sym q)
       (λ fs e.
-      x .comes fs e
-      ∙ subst (λ (r′ : Found). Answered room text (within-pair s at made t) r′ t′) q h (signed (x .expression) (x .sign) ∷ fs) (omega arith))
+      x .half .comes fs e
+      ∙ subst (λ (r′ : Found). Answered room text (within-pair s at made t) r′ t′) q h (signed (x .half .expression) (x .sign) ∷ fs) (omega arith))
 
   module _ {at₂ made₂ : ℕ} {t₂ : Table} (y : Behind room text (within-pair s at made t) at₂ made₂ t₂) (n : getD text at₂ 0 ≡ byte-* → ⊥) where
-    right-comes : Comes room text s at₂ made₂ (λ fs. behind (y .expression) (signed (x .expression) (x .sign) ∷ fs))
-    right-comes fs e = x .comes fs e ∙ y .reads (signed (x .expression) (x .sign) ∷ fs) (omega arith)
+    right-comes : Comes room text s at₂ made₂ (λ fs. behind (y .expression) (signed (x .half .expression) (x .sign) ∷ fs))
+    right-comes fs e = x .half .comes fs e ∙ y .reads (signed (x .half .expression) (x .sign) ∷ fs) (omega arith)
 
     close-refused : (number place : ℕ) (t₃ : Table) → Close-at text room at₂ made₂ (pair-row kind made made₂) t₂ (Refused number place) t₃
         → Answered room text s (Refused number place) t₃
@@ -202,37 +204,37 @@ module _ {room : ℕ} {text : Text} {s : Start} {kind at made : ℕ} {t : Table}
     close-refused number place t₃ h fs e = right-comes fs e ∙ rw (h .0) (go (h .1))
       where
         c : Stand
-        c = behind (y .expression) (signed (x .expression) (x .sign) ∷ fs)
+        c = behind (y .expression) (signed (x .half .expression) (x .sign) ∷ fs)
 
         go : ((number ≡ not-grammar) × (at₂ < length text → getD text at₂ 0 ≡ byte-close → ⊥))
             ⊎ ((number ≡ too-many-entries) × (at₂ < length text) × (getD text at₂ 0 ≡ byte-close) × (room ≤ made₂))
             → scan-at room text at₂ made₂ c ≡ refused (refusal number at₂)
         go (inl k) =
             rw (k .0)
-            (stuck-here room text at₂ made₂ c (y .within) (λ q. behind-unclosed (x .expression) (y .expression) (x .sign) fs (getD text at₂ 0) n (k .1 q)) refl)
+            (stuck-here room text at₂ made₂ c (y .within) (λ q. behind-unclosed (x .half .expression) (y .expression) (x .sign) fs (getD text at₂ 0) n (k .1 q)) refl)
         go (inr k) =
             rw (k .0)
-            (at-many room text at₂ made₂ c (k .1) (behind (binary (x .sign) (x .expression) (y .expression)) fs)
-            (behind-close (x .expression) (y .expression) (x .sign) fs (getD text at₂ 0) (k .2)) (omega (arith, x .shallow)) (rw (k .2)) (k .3))
+            (at-many room text at₂ made₂ c (k .1) (behind (binary (x .sign) (x .half .expression) (y .expression)) fs)
+            (behind-close (x .half .expression) (y .expression) (x .sign) fs (getD text at₂ 0) (k .2)) (omega (arith, x .half .shallow)) (rw (k .2)) (k .3))
 
     pub pair-answers : (r : Found) (t₃ : Table) → Close-at text room at₂ made₂ (pair-row kind made made₂) t₂ r t₃ → Answered room text s r t₃
     unfolding open-at entries makes-entry
     pair-answers (Value made₃ cursor) t₃ h =
         record {
-          expression = binary (x .sign) (x .expression) (y .expression);
+          expression = binary (x .sign) (x .half .expression) (y .expression);
           reads = λ fs e.
               right-comes fs e
               ∙ rw (h .4, h .3)
-              (at-entry room text at₂ made₂ (behind (y .expression) (signed (x .expression) (x .sign) ∷ fs)) (h .0)
-              (behind (binary (x .sign) (x .expression) (y .expression)) fs)
-              (behind-close (x .expression) (y .expression) (x .sign) fs (getD text at₂ 0) (h .1)) (omega (arith, x .shallow)) (rw (h .1)) (h .2));
-          shallow = omega (arith, x .shallow);
-          onward = omega (arith, h .4, x .onward, y .onward);
+              (at-entry room text at₂ made₂ (behind (y .expression) (signed (x .half .expression) (x .sign) ∷ fs)) (h .0)
+              (behind (binary (x .sign) (x .half .expression) (y .expression)) fs)
+              (behind-close (x .half .expression) (y .expression) (x .sign) fs (getD text at₂ 0) (h .1)) (omega (arith, x .half .shallow)) (rw (h .1)) (h .2));
+          shallow = omega (arith, x .half .shallow);
+          onward = omega (arith, h .4, x .half .onward, y .onward);
           within = omega (arith, h .4, h .0);
-          counted = omega (arith, h .3, x .counted, y .counted);
+          counted = omega (arith, h .3, x .half .counted, y .counted);
           fits = omega (arith, h .3, h .2);
           laid-out =
               h .5
-              ∙ rw (y .laid-out, y .counted, x .laid-out, x .counted, x .kind-is) (pair-laid (s .made) (x .sign) (x .expression) (y .expression) (s .columns));
+              ∙ rw (y .laid-out, y .counted, x .half .laid-out, x .half .counted, x .kind-is) (pair-laid (s .made) (x .sign) (x .half .expression) (y .expression) (s .columns));
         }
     pair-answers (Refused number place) t₃ h = close-refused number place t₃ h

@@ -1,7 +1,7 @@
 -- An expression followed by stars: what holds as each is read. Knows nothing of the code.
 use Prim.Native.Nat.{ℕ, _-_, _≤_, _<_}
 use native.Mathlib.Omega.{arith}
-use mathlib.Core.Path.{_≡_, refl, ap, _∙_}
+use mathlib.Core.Path.{_≡_, ap, _∙_}
 use mathlib.Core.List.{[], _∷_}
 use lib.ListN.{length, length-set}
 use Rattle.theory.specs.Table.{Table}
@@ -24,11 +24,11 @@ pub record Starred (room : ℕ) (text : Text) (at₀ made₀ : ℕ) (t₀ : Tabl
 
 module _ (room : ℕ) (text : Text) (at₀ made₀ : ℕ) (t₀ : Table) (at made byte : ℕ) (t : Table) (x : Starred room text at₀ made₀ t₀ at made t)
     (cursor : Cursor) (h : Stepped text at byte cursor) (e : byte ≡ byte-*) where
-  pub starred-answers : (r : Found) (t′ : Table) → Entry room at made cursor (star-row made ∷ []) t r t′
+  pub starred-answers : (r : Found) (t′ : Table) → Entry room made cursor (star-row made ∷ []) t r t′
       → (s : Start) → Behind room text s at₀ made₀ t₀ → Answered room text s r t′
-  starred-answers r t′ i s y = star-answers room text s at made t (x .onward s y) (h .inside) (h .here ∙ e) cursor (h .next) r t′ i
+  starred-answers r t′ i s y = star-answers room text s at made t (x .onward s y) byte cursor h e r t′ i
 
-  pub starred-more : (made′ : ℕ) (cursor′ : Cursor) (t′ : Table) → Entry room at made cursor (star-row made ∷ []) t (Value made′ cursor′) t′
+  pub starred-more : (made′ : ℕ) (cursor′ : Cursor) (t′ : Table) → Entry room made cursor (star-row made ∷ []) t (Value made′ cursor′) t′
       → Starred room text at₀ made₀ t₀ (cursor′ .at) made′ t′
   starred-more made′ cursor′ t′ i =
       record {

@@ -1,5 +1,5 @@
 -- What a cursor's step says of the text: at the end, or the byte that stands there. Assumes nothing.
-use Prim.Native.Nat.{ℕ, _+_, _≤_, _<_}
+use Prim.Native.Nat.{ℕ, _+_, _-_, _≤_, _<_}
 use native.Mathlib.Omega.{arith}
 use mathlib.Core.Path.{_≡_, refl, ap, _∙_}
 use mathlib.Core.Bool.{Bool, true, false}
@@ -24,6 +24,10 @@ pub record Stepped (text : List ℕ) (at byte : ℕ) (cursor : Cursor) : Type 0 
   pub here : getD text at 0 ≡ byte
   pub next : cursor .at ≡ at + 1
 
+-- The byte before the cursor behind a place is the place's.
+pub byte-before : {text : List ℕ} {at byte : ℕ} {cursor : Cursor} → Stepped text at byte cursor → cursor .at - 1 ≡ at
+byte-before s = omega (arith, s .next)
+
 module _ (text : List ℕ) (at : ℕ) (r : Step) (h : r ≡ step-at text at) where
   pub step-end : r ≡ End → length text ≤ at
   step-end e = go (ltb at (length text)) refl
@@ -44,10 +48,10 @@ module _ (text : List ℕ) (at : ℕ) (r : Step) (h : r ≡ step-at text at) whe
 -- ---- `)` and the signs
 
 pub close-at : (text : List ℕ) (room at made byte : ℕ) (cursor : Cursor) (w : Row) (t : Table) (r : Found) (t′ : Table)
-    → Stepped text at byte cursor → byte ≡ byte-close → Entry room at made cursor (w ∷ []) t r t′ → Close-at text room at made w t r t′
+    → Stepped text at byte cursor → byte ≡ byte-close → Entry room made cursor (w ∷ []) t r t′ → Close-at text room at made w t r t′
 close-at text room at made byte cursor w t (Value made′ cursor′) t′ s e h =
     (s .inside, s .here ∙ e, h .0, h .1, ap (λ (q : Cursor). q .at) (h .2) ∙ s .next, h .3)
-close-at text room at made byte cursor w t (Refused number place) t′ s e h = (h .2, inr (h .1, s .inside, s .here ∙ e, h .0))
+close-at text room at made byte cursor w t (Refused number place) t′ s e h = (h .2 ∙ byte-before s, inr (h .1, s .inside, s .here ∙ e, h .0))
 
 pub sign-at : (text : List ℕ) (at byte : ℕ) (cursor : Cursor) (g : Sign) → Stepped text at byte cursor → byte ≡ sign-byte g
     → Sign-at text at (Value (kind-of-sign g) cursor)

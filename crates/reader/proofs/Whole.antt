@@ -24,46 +24,56 @@ use Rattle.theory.proofs.Rows.{rows-length, read-fits}
 use Rattle.columns.specs.declared.Cursor.{Cursor}
 use Rattle.reader.specs.declared.Reading.the-variants as Answer
 use Rattle.reader.specs.Answer.{answer}
+use Rattle.reader.specs.declared.entries.Point.{Point}
 use Rattle.reader.specs.declared.entries.Found.{Found}
 use Rattle.reader.specs.declared.entries.Found.the-variants.{Value, Refused}
-use Rattle.reader.specs.Found.{laid, Entry, start, Answered, Unstarred}
-use Rattle.reader.specs.Whole.{Beginning, Begun, Whole-read, cleared, left-by, Limited}
+use Rattle.reader.specs.Found.{laid, Entry, start, begins, Answered, Unstarred}
+use Rattle.reader.specs.Whole.{at-start, Beginning, Begun, Whole-read, cleared, left-by, Limited}
 use Rattle.reader.proofs.Laid.{laid-zeros}
-use Rattle.reader.proofs.Stepped.{Stepped}
+use Rattle.reader.proofs.Stepped.{Stepped, byte-before}
 
 -- ---- The beginning
 
-pub begun-empty : (room : ℕ) (text : Text) (at : ℕ) → at ≡ 0 → length text ≤ at → scan room text ≡ refused (refusal not-grammar 0)
+pub begun-empty : (room : ℕ) (text : Text) (at : Point) → at ≡ at-start room → length text ≤ at .cursor .at → scan room text ≡ refused (refusal not-grammar 0)
 unfolding scan finish
-begun-empty room text at z l = at-end room text 0 0 (before []) (omega arith)
+begun-empty room text at z l = at-end room text 0 0 (before []) (subst (λ (p : Point). length text ≤ p .cursor .at) z l)
+
+-- The row of `0`.
+abbrev empty-row : Row
+empty-row = record { kind = 0; left = 0; right = 0 }
 
 zero-next : (b : ℕ) → b ≡ byte-0 → next (before []) (token b) ≡ some ended
 unfolding next token
 zero-next b e = rw e
 
 module _ (room : ℕ) (text : Text) (t : Table) where
-  pub begun-zero : (at byte : ℕ) (cursor : Cursor) → at ≡ 0 → Stepped text at byte cursor → byte ≡ byte-0 → (r : Found) (t′ : Table)
-      → Entry room 0 0 cursor (record { kind = 0; left = 0; right = 0 } ∷ []) t r t′ → Begun room text t r t′
+  pub begun-zero : (at : Point) → at ≡ at-start room → (byte : ℕ) (cursor : Cursor) → Stepped text (at .cursor .at) byte cursor → byte ≡ byte-0
+      → (r : Found) (t′ : Table) → Entry room (at .made) cursor (empty-row ∷ []) t r t′ → Begun room text t r t′
   unfolding scan open-at makes-entry finish next entries rows
-  begun-zero at byte cursor z i e (Value made cursor′) t′ h =
-      let here : getD text 0 0 ≡ byte-0 = subst (λ (p : ℕ). getD text p 0 ≡ byte) z (i .here) ∙ e in
-      let next-at : cursor′ .at ≡ 0 + 1 = ap (λ (q : Cursor). q .at) (h .2) ∙ i .next ∙ ap (λ (p : ℕ). p + 1) z in
-      record {
-        expression = ∅;
-        stand = ended;
-        reads = rw (next-at, h .1) (at-entry room text 0 0 (before []) (omega (arith, i .inside)) ended (zero-next (getD text 0 0) here) (omega arith) (rw here) (h .0));
-        whole = refl;
-        ended = λ l. refl;
-        counted = h .1;
-        laid-out = h .3;
-      }
-  begun-zero at byte cursor z i e (Refused number place) t′ h =
-      let here : getD text 0 0 ≡ byte-0 = subst (λ (p : ℕ). getD text p 0 ≡ byte) z (i .here) ∙ e in
-      rw (h .1, h .2) (at-many room text 0 0 (before []) (omega (arith, i .inside)) ended (zero-next (getD text 0 0) here) (omega arith) (rw here) (h .0))
+  begun-zero at z byte cursor i e r t′ h =
+      go r (subst (λ (p : Point). Stepped text (p .cursor .at) byte cursor) z i) (subst (λ (p : Point). Entry room (p .made) cursor (empty-row ∷ []) t r t′) z h)
+    where
+      go : (r : Found) → Stepped text 0 byte cursor → Entry room 0 cursor (empty-row ∷ []) t r t′ → Begun room text t r t′
+      go (Value made cursor′) i h =
+          let here : getD text 0 0 ≡ byte-0 = i .here ∙ e in
+          let next-at : cursor′ .at ≡ 0 + 1 = ap (λ (q : Cursor). q .at) (h .2) ∙ i .next in
+          record {
+            expression = ∅;
+            stand = ended;
+            reads = rw (next-at, h .1) (at-entry room text 0 0 (before []) (i .inside) ended (zero-next (getD text 0 0) here) (omega arith) (rw here) (h .0));
+            whole = refl;
+            ended = λ l. refl;
+            counted = h .1;
+            laid-out = h .3;
+          }
+      go (Refused number place) i h =
+          let here : getD text 0 0 ≡ byte-0 = i .here ∙ e in
+          rw (h .1, h .2 ∙ byte-before i) (at-many room text 0 0 (before []) (i .inside) ended (zero-next (getD text 0 0) here) (omega arith) (rw here) (h .0))
 
-  pub begun-expression : (at : ℕ) → at ≡ 0 → (r : Found) (t′ : Table) → Answered room text (start 0 at 0 t) r t′ → Unstarred text r → Begun room text t r t′
+  pub begun-expression : (at : Point) → at ≡ at-start room → (r : Found) (t′ : Table) → Answered room text (begins at t) r t′ → Unstarred text r
+      → Begun room text t r t′
   unfolding scan finish
-  begun-expression at z r t′ h n = go r n (subst (λ (p : ℕ). Answered room text (start 0 p 0 t) r t′) z h)
+  begun-expression at z r t′ h n = go r n (subst (λ (p : Point). Answered room text (begins p t) r t′) z h)
     where
       go : (r : Found) → Unstarred text r → Answered room text (start 0 0 0 t) r t′ → Begun room text t r t′
       go (Value made cursor) n x =

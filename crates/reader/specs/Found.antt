@@ -1,5 +1,5 @@
 -- What the reader's rules owe each other: told by the scan of `theory`, which goes on from behind what a rule found.
-use Prim.Native.Nat.{ℕ, _+_, _≤_, _<_}
+use Prim.Native.Nat.{ℕ, _+_, _-_, _≤_, _<_}
 use mathlib.Core.Path.{_≡_}
 use mathlib.Core.Logic.{_⊎_}
 use mathlib.Core.List.{List, [], _∷_, map}
@@ -12,6 +12,10 @@ use Rattle.theory.specs.Table.{Table, table, Row, kind-of-sign}
 use Rattle.theory.specs.Grammar.{Text, Reading, refused, rows, sign-byte, byte-0, byte-close, byte-*}
 use Rattle.theory.specs.Scan.{Token, opening, closing, starring, zero, unit, other, signing, naming, Frame, Stand, before, behind, scan-from}
 use Rattle.columns.specs.declared.Cursor.{Cursor}
+use Rattle.columns.specs.Row.{as-row}
+use Rattle.reader.specs.declared.entries.Point.{Point}
+use Rattle.reader.specs.declared.entries.LeafRow.{LeafRow}
+use Rattle.reader.specs.declared.entries.LeafRow.the-variants.{Of, Nothing}
 use Rattle.reader.specs.declared.entries.Found.{Found}
 use Rattle.reader.specs.declared.entries.Found.the-variants.{Value, Refused}
 
@@ -27,10 +31,10 @@ pub record Room (room : ℕ) (t : Table) : Type 0 where
   pub left : room ≤ length (t .left)
   pub right : room ≤ length (t .right)
 
--- An entry made at byte `place`: its row, with the cursor behind the byte, or 15 where the room is full.
-abbrev pub Entry : (room place made : ℕ) → Cursor → List Row → Table → Found → Table → Type 0
-Entry room place made cursor ws t (Value made′ cursor′) t′ = (made < room) × (made′ ≡ made + 1) × (cursor′ ≡ cursor) × (t′ ≡ laid made ws t)
-Entry room place made cursor ws t (Refused number p) t′ = (room ≤ made) × (number ≡ too-many-entries) × (p ≡ place)
+-- An entry for the byte before the cursor: its row, or 15 where the room is full.
+abbrev pub Entry : (room made : ℕ) → Cursor → List Row → Table → Found → Table → Type 0
+Entry room made cursor ws t (Value made′ cursor′) t′ = (made < room) × (made′ ≡ made + 1) × (cursor′ ≡ cursor) × (t′ ≡ laid made ws t)
+Entry room made cursor ws t (Refused number place) t′ = (room ≤ made) × (number ≡ too-many-entries) × (place ≡ cursor .at - 1)
 
 -- The expression that a byte is by itself.
 unfoldable pub leaf-of : Token → Option Expression
@@ -43,9 +47,10 @@ leaf-of other = none
 leaf-of (signing s) = none
 leaf-of (naming a) = some (letter a)
 
-abbrev pub Leaf : Option Expression → (room place made : ℕ) → Cursor → Table → Found → Table → Type 0
-Leaf none room place made cursor t r t′ = r ≡ Refused not-grammar place
-Leaf (some e) room place made cursor t r t′ = Entry room place made cursor (rows made e) t r t′
+-- The row that a byte makes by itself, whatever was made before it.
+abbrev pub Leaf-row : Token → LeafRow → Type 0
+Leaf-row k (Of w) = (e : Expression) × (leaf-of k ≡ some e) × ((made : ℕ) → rows made e ≡ as-row w ∷ [])
+Leaf-row k Nothing = leaf-of k ≡ none
 
 -- A sign at place `at`, with its entry's kind, or 13.
 abbrev pub Sign-at : Text → ℕ → Found → Type 0
@@ -75,6 +80,10 @@ pub record Start : Type 0 where
 
 abbrev pub start : ℕ → ℕ → ℕ → Table → Start
 start depth at made t = record { depth = depth; at = at; made = made; columns = t }
+
+-- The same from the code's point, over the columns as they are there.
+abbrev pub begins : Point → Table → Start
+begins at t = start (at .depth) (at .cursor .at) (at .made) t
 
 -- Where a rule may begin. `0` is an expression only where nothing was read before it, and no rule reads it.
 pub record May-begin (room : ℕ) (text : Text) (s : Start) : Type 0 where

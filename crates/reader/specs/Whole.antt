@@ -10,9 +10,14 @@ use Rattle.theory.specs.Table.{Table, table}
 use Rattle.theory.specs.Grammar.{Text, Reading, read, refused, rows}
 use Rattle.theory.specs.Scan.{token, Stand, next, finish, scan}
 use Rattle.theory.specs.Read.{Due, column-of}
+use Rattle.reader.specs.declared.entries.Point.{Point}
 use Rattle.reader.specs.declared.entries.Found.{Found}
 use Rattle.reader.specs.declared.entries.Found.the-variants.{Value, Refused}
 use Rattle.reader.specs.Found.{laid, scan-at}
+
+-- The start of a text: nothing is open, and no entry is made.
+abbrev pub at-start : ℕ → Point
+at-start room = record { cursor = record { at = 0 }; depth = 0; made = 0; room = room }
 
 -- `0` or an expression stands before place `at`, behind which the grammar allows no other byte.
 pub record Beginning (room : ℕ) (text : Text) (at made : ℕ) (t t′ : Table) : Type 0 where

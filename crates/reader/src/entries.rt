@@ -10,41 +10,43 @@ ghost use Rattle.theory.specs.Table.{table};
 ghost use Rattle.theory.specs.Grammar.{is-letter};
 ghost use Rattle.theory.specs.Scan.{token};
 ghost use Rattle.columns.specs.Row.{as-row};
-ghost use Rattle.reader.specs.Found.{Room, Entry, Leaf, leaf-of, Sign-at, Close-at, Start, Behind, Answered, Unstarred};
+ghost use Rattle.reader.specs.Found.{Room, Entry, Leaf-row, Sign-at, Close-at, Start, Behind, Answered, Unstarred};
+
+// How far a reading is. 01: "The text place .. a small cursor, handed in and handed back"; with it the parentheses open at once, the entries
+// made, and the room for them.
+pub struct Point {
+    pub cursor: Cursor,
+    pub depth: usize,
+    pub made: usize,
+    pub room: usize,
+}
 
 // 01: "the value with its cursor, or the refusal with its byte". The value is the number of entries made, the expression's own the
 // last of them, or the kind of the entry that a sign will make.
 pub enum Found {
-    Value { value: usize, cursor: Cursor },
+    Value(usize, Cursor),
     Refused { number: u8, place: usize },
 }
 
-// An entry at byte `place`, behind which the cursor stands.
-pub fn entry(
-    place: usize,
-    cursor: Cursor,
-    made: usize,
-    room: usize,
-    row: Row,
-    kind: &mut [u8],
-    left: &mut [u16],
-    right: &mut [u16],
-) -> Found
-    requires { ⌜ Room room (table (now kind) (now left) (now right)) ⌝ }
+// The entry of the byte before the cursor. 01, refusal 15: "an entry more than the smaller of 512 and the column length", at that byte.
+pub fn entry(at: Point, row: Row, kind: &mut [u8], left: &mut [u16], right: &mut [u16]) -> Found
+    requires { ⌜ Room (at .room) (table (now kind) (now left) (now right)) × (0 < at .cursor .at) ⌝ }
     ensures { λ r.
-        ⌜ Entry room place made cursor (as-row row ∷ []) (table (now (kind .entry)) (now (left .entry)) (now (right .entry))) r
+        ⌜ Entry (at .room) (at .made) (at .cursor) (as-row row ∷ []) (table (now (kind .entry)) (now (left .entry)) (now (right .entry))) r
         (table (now (kind .exit)) (now (left .exit)) (now (right .exit))) ⌝ }
 {
-    if made < room {
+    let cursor = at.cursor;
+    let made = at.made;
+    if made < at.room {
         kind[made] = row.kind;
         left[made] = row.left;
         right[made] = row.right;
-        Found::Value {
-            value: made + 1,
-            cursor,
-        }
+        Found::Value(made + 1, cursor)
     } else {
-        Found::Refused { number: 15, place }
+        Found::Refused {
+            number: 15,
+            place: cursor.at - 1,
+        }
     }
 }
 
@@ -55,39 +57,30 @@ fn letter(byte: u8) -> bool
     ((65 <= byte) & (byte <= 90)) | ((97 <= byte) & (byte <= 122))
 }
 
-// `1` or a letter.
-pub fn leaf(
-    byte: u8,
-    place: usize,
-    cursor: Cursor,
-    made: usize,
-    room: usize,
-    kind: &mut [u8],
-    left: &mut [u16],
-    right: &mut [u16],
-) -> Found
-    requires { ⌜ Room room (table (now kind) (now left) (now right)) ⌝ }
-    ensures { λ r.
-        ⌜ Leaf (leaf-of (token byte)) room place made cursor (table (now (kind .entry)) (now (left .entry)) (now (right .entry))) r
-        (table (now (kind .exit)) (now (left .exit)) (now (right .exit))) ⌝ }
+// What a byte is by itself: `1` or a letter, with its row, or no expression.
+pub enum LeafRow {
+    Of(Row),
+    Nothing,
+}
+
+pub fn leaf(byte: u8) -> LeafRow
+    ensures { λ r. ⌜ Leaf-row (token byte) r ⌝ }
 {
     if byte == b'1' {
-        let row = Row {
+        return LeafRow::Of(Row {
             kind: 1,
             left: 0,
             right: 0,
-        };
-        return entry(place, cursor, made, room, row, kind, left, right);
+        });
     }
     if letter(byte) {
-        let row = Row {
+        return LeafRow::Of(Row {
             kind: 2,
             left: byte as u16,
             right: 0,
-        };
-        return entry(place, cursor, made, room, row, kind, left, right);
+        });
     }
-    Found::Refused { number: 13, place }
+    LeafRow::Nothing
 }
 
 // 01: "with sign `+`, `.` or `&`".
@@ -99,9 +92,9 @@ pub fn sign(text: &[u8], cursor: Cursor) -> Found
         return Found::Refused { number: 13, place };
     };
     match byte {
-        b'+' => Found::Value { value: 3, cursor },
-        b'.' => Found::Value { value: 4, cursor },
-        b'&' => Found::Value { value: 5, cursor },
+        b'+' => Found::Value(3, cursor),
+        b'.' => Found::Value(4, cursor),
+        b'&' => Found::Value(5, cursor),
         _ => Found::Refused { number: 13, place },
     }
 }
@@ -109,73 +102,60 @@ pub fn sign(text: &[u8], cursor: Cursor) -> Found
 // 01: "a sign's entry at its `)`".
 pub fn close(
     text: &[u8],
-    cursor: Cursor,
-    made: usize,
-    room: usize,
+    at: Point,
     row: Row,
     kind: &mut [u8],
     left: &mut [u16],
     right: &mut [u16],
 ) -> Found
-    requires { ⌜ Room room (table (now kind) (now left) (now right)) ⌝ }
+    requires { ⌜ Room (at .room) (table (now kind) (now left) (now right)) ⌝ }
     ensures { λ r.
-        ⌜ Close-at (now (text .entry)) room (cursor .at) made (as-row row) (table (now (kind .entry)) (now (left .entry)) (now (right .entry))) r
+        ⌜ Close-at (now (text .entry)) (at .room) (at .cursor .at) (at .made) (as-row row)
+        (table (now (kind .entry)) (now (left .entry)) (now (right .entry))) r
         (table (now (kind .exit)) (now (left .exit)) (now (right .exit))) ⌝ }
 {
+    let cursor = at.cursor;
     let place = cursor.at;
     let Step::Byte(byte, cursor) = cursor.step(text) else {
         return Found::Refused { number: 13, place };
     };
     if byte == b')' {
-        entry(place, cursor, made, room, row, kind, left, right)
+        entry(Point { cursor, ..at }, row, kind, left, right)
     } else {
         Found::Refused { number: 13, place }
     }
 }
 
 // 01: "an expression followed by `*`"; "a star at its `*`".
-pub fn stars(
-    text: &[u8],
-    cursor: Cursor,
-    made: usize,
-    room: usize,
-    kind: &mut [u8],
-    left: &mut [u16],
-    right: &mut [u16],
-) -> Found
-    requires { ⌜ Room room (table (now kind) (now left) (now right)) × (0 < made) × (made ≤ room) ⌝ }
+pub fn stars(text: &[u8], at: Point, kind: &mut [u8], left: &mut [u16], right: &mut [u16]) -> Found
+    requires { ⌜ Room (at .room) (table (now kind) (now left) (now right)) × (0 < at .made) × (at .made ≤ at .room) ⌝ }
     ensures { λ r.
-        ⌜ (((s : Start) → Behind room (now (text .entry)) s (cursor .at) made (table (now (kind .entry)) (now (left .entry)) (now (right .entry)))
-        → Answered room (now (text .entry)) s r (table (now (kind .exit)) (now (left .exit)) (now (right .exit)))))
+        ⌜ (((s : Start) → Behind (at .room) (now (text .entry)) s (at .cursor .at) (at .made)
+        (table (now (kind .entry)) (now (left .entry)) (now (right .entry)))
+        → Answered (at .room) (now (text .entry)) s r (table (now (kind .exit)) (now (left .exit)) (now (right .exit)))))
         × Unstarred (now (text .entry)) r ⌝ }
 {
-    let mut cursor = cursor;
-    let mut made = made;
+    let mut cursor = at.cursor;
+    let mut made = at.made;
     loop {
-        let place = cursor.at;
         let Step::Byte(byte, behind) = cursor.step(text) else {
-            return Found::Value {
-                value: made,
-                cursor,
-            };
+            return Found::Value(made, cursor);
         };
         if byte != b'*' {
-            return Found::Value {
-                value: made,
-                cursor,
-            };
+            return Found::Value(made, cursor);
         }
         let row = Row {
             kind: 6,
             left: (made - 1) as u16,
             right: 0,
         };
-        let star = entry(place, behind, made, room, row, kind, left, right);
-        let Found::Value {
-            value: more,
-            cursor: next,
-        } = star
-        else {
+        let point = Point {
+            cursor: behind,
+            made,
+            ..at
+        };
+        let star = entry(point, row, kind, left, right);
+        let Found::Value(more, next) = star else {
             return star;
         };
         made = more;

@@ -24,7 +24,7 @@ pub fn read(text: &[u8], kind: &mut [u8], left: &mut [u16], right: &mut [u16]) -
 {
     let found = limited(text, kind, left, right);
     match found {
-        Found::Value { value, cursor: _ } => Reading::Read { entries: value },
+        Found::Value(entries, _) => Reading::Read { entries },
         Found::Refused { number, place } => {
             clear(kind, left, right);
             Reading::Refused { number, place }

@@ -2,89 +2,68 @@
 
 use super::entries;
 use super::entries::Found;
+use super::entries::LeafRow;
+use super::entries::Point;
 use columns::Cursor;
 use columns::Row;
 use columns::Step;
+ghost use mathlib.Core.Path.{_≡_};
 ghost use Rattle.theory.specs.Table.{table};
-ghost use Rattle.reader.specs.Found.{Room, start, May-begin, Answered, Unstarred};
-ghost use Rattle.reader.specs.Whole.{Begun, Whole-read};
+ghost use Rattle.reader.specs.Found.{Room, begins, May-begin, Answered, Unstarred};
+ghost use Rattle.reader.specs.Whole.{at-start, Begun, Whole-read};
 
 // An operand and the stars behind it.
-pub fn expression(
-    text: &[u8],
-    cursor: Cursor,
-    depth: usize,
-    made: usize,
-    room: usize,
-    kind: &mut [u8],
-    left: &mut [u16],
-    right: &mut [u16],
-) -> Found
-    requires { ⌜ May-begin room (now text) (start depth (cursor .at) made (table (now kind) (now left) (now right))) ⌝ }
+fn expression(text: &[u8], at: Point, kind: &mut [u8], left: &mut [u16], right: &mut [u16]) -> Found
+    requires { ⌜ May-begin (at .room) (now text) (begins at (table (now kind) (now left) (now right))) ⌝ }
     ensures { λ r.
-        ⌜ Answered room (now (text .entry)) (start depth (cursor .at) made (table (now (kind .entry)) (now (left .entry)) (now (right .entry)))) r
+        ⌜ Answered (at .room) (now (text .entry)) (begins at (table (now (kind .entry)) (now (left .entry)) (now (right .entry)))) r
         (table (now (kind .exit)) (now (left .exit)) (now (right .exit)))
         × Unstarred (now (text .entry)) r ⌝ }
 {
-    let first = operand(text, cursor, depth, made, room, kind, left, right);
-    let Found::Value {
-        value: made,
-        cursor,
-    } = first
-    else {
+    let first = operand(text, at, kind, left, right);
+    let Found::Value(made, cursor) = first else {
         return first;
     };
-    entries::stars(text, cursor, made, room, kind, left, right)
+    entries::stars(text, Point { cursor, made, ..at }, kind, left, right)
 }
 
 // `1`, a letter, or two expressions with their sign in parentheses.
-fn operand(
-    text: &[u8],
-    cursor: Cursor,
-    depth: usize,
-    made: usize,
-    room: usize,
-    kind: &mut [u8],
-    left: &mut [u16],
-    right: &mut [u16],
-) -> Found
-    requires { ⌜ May-begin room (now text) (start depth (cursor .at) made (table (now kind) (now left) (now right))) ⌝ }
+fn operand(text: &[u8], at: Point, kind: &mut [u8], left: &mut [u16], right: &mut [u16]) -> Found
+    requires { ⌜ May-begin (at .room) (now text) (begins at (table (now kind) (now left) (now right))) ⌝ }
     ensures { λ r.
-        ⌜ Answered room (now (text .entry)) (start depth (cursor .at) made (table (now (kind .entry)) (now (left .entry)) (now (right .entry)))) r
+        ⌜ Answered (at .room) (now (text .entry)) (begins at (table (now (kind .entry)) (now (left .entry)) (now (right .entry)))) r
         (table (now (kind .exit)) (now (left .exit)) (now (right .exit))) ⌝ }
 {
+    let cursor = at.cursor;
     let place = cursor.at;
     let Step::Byte(byte, cursor) = cursor.step(text) else {
         return Found::Refused { number: 13, place };
     };
+    let mut behind = at;
+    behind.cursor = cursor;
     if byte != b'(' {
-        return entries::leaf(byte, place, cursor, made, room, kind, left, right);
+        let LeafRow::Of(row) = entries::leaf(byte) else {
+            return Found::Refused { number: 13, place };
+        };
+        return entries::entry(behind, row, kind, left, right);
     }
+    let depth = at.depth;
     if depth == 64 {
         return Found::Refused { number: 14, place };
     }
-    let x = expression(text, cursor, depth + 1, made, room, kind, left, right);
-    let Found::Value {
-        value: first,
-        cursor,
-    } = x
-    else {
+    behind.depth = depth + 1;
+    let x = expression(text, behind, kind, left, right);
+    let Found::Value(first, cursor) = x else {
         return x;
     };
     let sign = entries::sign(text, cursor);
-    let Found::Value {
-        value: kind_of_sign,
-        cursor,
-    } = sign
-    else {
+    let Found::Value(kind_of_sign, cursor) = sign else {
         return sign;
     };
-    let y = expression(text, cursor, depth + 1, first, room, kind, left, right);
-    let Found::Value {
-        value: second,
-        cursor,
-    } = y
-    else {
+    behind.cursor = cursor;
+    behind.made = first;
+    let y = expression(text, behind, kind, left, right);
+    let Found::Value(second, cursor) = y else {
         return y;
     };
     let row = Row {
@@ -92,23 +71,19 @@ fn operand(
         left: (first - 1) as u16,
         right: (second - 1) as u16,
     };
-    entries::close(text, cursor, second, room, row, kind, left, right)
+    behind.cursor = cursor;
+    behind.made = second;
+    entries::close(text, behind, row, kind, left, right)
 }
 
 // 01: "`0` alone is the empty language." Any other text begins with an expression.
-fn beginning(
-    text: &[u8],
-    room: usize,
-    kind: &mut [u8],
-    left: &mut [u16],
-    right: &mut [u16],
-) -> Found
-    requires { ⌜ Room room (table (now kind) (now left) (now right)) ⌝ }
+fn beginning(text: &[u8], at: Point, kind: &mut [u8], left: &mut [u16], right: &mut [u16]) -> Found
+    requires { ⌜ Room (at .room) (table (now kind) (now left) (now right)) × (at ≡ at-start (at .room)) ⌝ }
     ensures { λ r.
-        ⌜ Begun room (now (text .entry)) (table (now (kind .entry)) (now (left .entry)) (now (right .entry))) r
+        ⌜ Begun (at .room) (now (text .entry)) (table (now (kind .entry)) (now (left .entry)) (now (right .entry))) r
         (table (now (kind .exit)) (now (left .exit)) (now (right .exit))) ⌝ }
 {
-    let start = Cursor::start();
+    let start = at.cursor;
     let Step::Byte(byte, cursor) = start.step(text) else {
         return Found::Refused {
             number: 13,
@@ -121,9 +96,9 @@ fn beginning(
             left: 0,
             right: 0,
         };
-        return entries::entry(0, cursor, 0, room, row, kind, left, right);
+        return entries::entry(Point { cursor, ..at }, row, kind, left, right);
     }
-    expression(text, start, 0, 0, room, kind, left, right)
+    expression(text, at, kind, left, right)
 }
 
 // A beginning, and the end of the text behind it.
@@ -139,8 +114,15 @@ pub fn whole(
         ⌜ Whole-read room (now (text .entry)) (table (now (kind .entry)) (now (left .entry)) (now (right .entry))) r
         (table (now (kind .exit)) (now (left .exit)) (now (right .exit))) ⌝ }
 {
-    let found = beginning(text, room, kind, left, right);
-    let Found::Value { value: _, cursor } = found else {
+    let cursor = Cursor::start();
+    let start = Point {
+        cursor,
+        depth: 0,
+        made: 0,
+        room,
+    };
+    let found = beginning(text, start, kind, left, right);
+    let Found::Value(_, cursor) = found else {
         return found;
     };
     let Step::End = cursor.step(text) else {

@@ -20,10 +20,10 @@ fn show(judgement: matcher::Judgement) {
     }
 }
 
-// Two states, the second's accepting value and one arc as given; work columns of one word that are not zero before.
-fn two_states(states: usize, flag: u8, arcs: usize, f: u16, l: u8, t: u16, record: &[u8]) {
+// Two states, the second's accepting value, the arcs' starts and one letter and end as given; work columns of one word that are not zero
+// before.
+fn two_states(states: usize, flag: u8, arcs: usize, from: &[u16], l: u8, t: u16, record: &[u8]) {
     let accepting = [0, flag];
-    let from = [f];
     let letter = [l];
     let to = [t];
     let mut current = [7u64; 1];
@@ -32,7 +32,7 @@ fn two_states(states: usize, flag: u8, arcs: usize, f: u16, l: u8, t: u16, recor
         states,
         &accepting,
         arcs,
-        &from,
+        from,
         &letter,
         &to,
         record,
@@ -64,41 +64,21 @@ fn no_arc(states: usize, words: usize, behind: usize)
     ));
 }
 
-fn uneven() {
-    let accepting = [1u8; 1];
-    let from = [0u16; 2];
-    let letter = [97u8; 1];
-    let to = [0u16; 1];
-    let mut current = [7u64; 1];
-    let mut next = [7u64; 1];
-    show(matcher::judge(
-        1,
-        &accepting,
-        1,
-        &from,
-        &letter,
-        &to,
-        b"a",
-        &mut current,
-        &mut next,
-    ));
-}
-
 pub(crate) fn all() {
-    two_states(2, 1, 1, 0, b'a', 1, b"");
-    two_states(2, 1, 1, 0, b'a', 1, b"a");
-    two_states(2, 1, 1, 0, b'a', 1, b"b");
-    two_states(2, 1, 1, 0, b'a', 1, b"aa");
-    two_states(2, 0, 1, 0, 255, 1, &[255]);
-    two_states(2, 1, 1, 0, b'a', 1, &[0]);
-    uneven();
-    two_states(0, 1, 0, 0, b'a', 0, b"");
-    two_states(3, 1, 1, 0, b'a', 1, b"");
-    two_states(2, 2, 1, 0, b'a', 1, b"");
-    two_states(2, 1, 2, 0, b'a', 1, b"");
-    two_states(2, 1, 1, 2, b'a', 1, b"");
-    two_states(2, 1, 1, 0, b'a', 2, b"");
-    two_states(2, 1, 1, 0, 0, 1, b"");
+    two_states(2, 1, 1, &[0], b'a', 1, b"");
+    two_states(2, 1, 1, &[0], b'a', 1, b"a");
+    two_states(2, 1, 1, &[0], b'a', 1, b"b");
+    two_states(2, 1, 1, &[0], b'a', 1, b"aa");
+    two_states(2, 0, 1, &[0], 255, 1, &[255]);
+    two_states(2, 1, 1, &[0], b'a', 1, &[0]);
+    two_states(2, 1, 1, &[0, 0], b'a', 1, b"a");
+    two_states(0, 1, 0, &[0], b'a', 0, b"");
+    two_states(3, 1, 1, &[0], b'a', 1, b"");
+    two_states(2, 2, 1, &[0], b'a', 1, b"");
+    two_states(2, 1, 2, &[0], b'a', 1, b"");
+    two_states(2, 1, 1, &[2], b'a', 1, b"");
+    two_states(2, 1, 1, &[0], b'a', 2, b"");
+    two_states(2, 1, 1, &[0], 0, 1, b"");
     no_arc(65535, 1024, 1024);
     no_arc(65536, 1024, 1024);
     no_arc(64, 1, 1);

@@ -24,8 +24,9 @@ fn show(building: Building) {
     }
 }
 
-fn lend(kind: &[u8], left: &[u16], right: &[u16], x: usize, s: usize, a: usize)
-    requires { ⌜ (x ≤ 1024) × (s ≤ 512) × (a ≤ 4096) ⌝ }
+// Room for x expressions, s states with so many accepting flags, a arcs.
+fn lend(kind: &[u8], left: &[u16], right: &[u16], x: usize, s: usize, flags: usize, a: usize)
+    requires { ⌜ (x ≤ 1024) × (s ≤ 512) × (flags ≤ 512) × (a ≤ 4096) ⌝ }
 {
     let mut xkind = [0u8; 1024];
     let mut xleft = [0u16; 1024];
@@ -43,7 +44,7 @@ fn lend(kind: &[u8], left: &[u16], right: &[u16], x: usize, s: usize, a: usize)
         &mut xleft[..x],
         &mut xright[..x],
         &mut expression[..s],
-        &mut accepting[..s],
+        &mut accepting[..flags],
         &mut from[..a],
         &mut letter[..a],
         &mut to[..a],
@@ -54,15 +55,15 @@ fn lend(kind: &[u8], left: &[u16], right: &[u16], x: usize, s: usize, a: usize)
 fn exact(kind: &[u8], left: &[u16], right: &[u16], x: usize, s: usize, a: usize)
     requires { ⌜ (x ≤ 1024) × (s ≤ 512) × (a ≤ 4096) ⌝ }
 {
-    lend(kind, left, right, x, s, a);
+    lend(kind, left, right, x, s, s, a);
     if 0 < x {
-        lend(kind, left, right, x - 1, s, a);
+        lend(kind, left, right, x - 1, s, s, a);
     }
     if 0 < s {
-        lend(kind, left, right, x, s - 1, a);
+        lend(kind, left, right, x, s - 1, s - 1, a);
     }
     if 0 < a {
-        lend(kind, left, right, x, s, a - 1);
+        lend(kind, left, right, x, s, s, a - 1);
     }
 }
 
@@ -97,7 +98,7 @@ fn needs(text: &[u8], x: usize, s: usize, a: usize)
 }
 
 fn table(kind: &[u8], left: &[u16], right: &[u16]) {
-    lend(kind, left, right, 100, 100, 100);
+    lend(kind, left, right, 100, 100, 100, 100);
 }
 
 fn over_512() {
@@ -107,34 +108,10 @@ fn over_512() {
     table(&kind, &left, &right);
 }
 
-fn uneven() {
-    let mut xkind = [0u8; 2];
-    let mut xleft = [0u16; 2];
-    let mut xright = [0u16; 2];
-    let mut expression = [0u16; 2];
-    let mut accepting = [0u8; 1];
-    let mut from = [0u16; 2];
-    let mut letter = [0u8; 2];
-    let mut to = [0u16; 2];
-    show(builder::build(
-        &[1],
-        &[0],
-        &[0],
-        &mut xkind,
-        &mut xleft,
-        &mut xright,
-        &mut expression,
-        &mut accepting,
-        &mut from,
-        &mut letter,
-        &mut to,
-    ));
-}
-
 fn causes() {
     table(&[2], &[97, 0], &[0]);
     table(&[2], &[97], &[0, 0]);
-    uneven();
+    lend(&[1], &[0], &[0], 2, 2, 1, 2);
     table(&[], &[], &[]);
     over_512();
     table(&[7], &[0], &[0]);

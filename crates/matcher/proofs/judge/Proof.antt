@@ -60,19 +60,24 @@ mark-requires c κs =
     let k = sound (c .before) .1 in
     omega (arith, k .not-empty, k .current-words, cleared (c .before .before) .clear .kept .0)
 
-follow-requires : tie.Need-follow-requires
-follow-requires c κs =
+walk-requires : tie.Need-walk-requires
+walk-requires c κs =
     let mark = c .before .before .before .before .mark in
     let passed = c .before .before .before .before .before .before in
     let clear = cleared (passed .before) .clear in
-    let args = entry (passed .before) .args in
-    let known = sound passed in (
-      known .0,
-      (
-        checked-kept (known .1) (mark .kept .0 ∙ clear .kept .0) (clear .kept .1 .0),
-        ready (length (args .current .now)) (length (args .next .now)) (clear .ensures .0) (mark .ensures) (clear .ensures .1),
-      ),
+    let args = entry (passed .before) .args in (
+      checked-kept (sound passed .1) (mark .kept .0 ∙ clear .kept .0) (clear .kept .1 .0),
+      ready (length (args .current .now)) (length (args .next .now)) (clear .ensures .0) (mark .ensures) (clear .ensures .1),
     )
+
+answer-requires : tie.Need-answer-requires
+answer-requires c κs =
+    let walk = c .before .before .before .before .before .walk in
+    let mark = c .before .before .before .before .before .before .before .before .before .before .mark in
+    let passed = c .before .before .before .before .before .before .before .before .before .before .before .before in
+    let clear = cleared (passed .before) .clear in
+    let known = sound passed in
+    (known .1 .states-few, known .0, omega (arith, known .1 .current-words, walk .kept .1 .1 .1 .1 .1 .1 .0, mark .kept .0, clear .kept .0))
 
 clear-requires-2 : tie.Need-clear-requires-2
 clear-requires-2 c κs = search needs
@@ -86,14 +91,18 @@ same-length-4 c = search needs
 returns-2 : tie.Need-returns-2
 returns-2 c =
     let last = c .before .before .before .before .clear2 .ensures in
-    let follow = c .before .before .before .before .before .before .before .before .before .before .before .follow in
-    let mark = c .before .before .before .before .before .before .before .before .before .before .before .before .before .before .before .before .mark in
-    let passed = c .before .before .before .before .before .before .before .before .before .before .before .before .before .before .before .before .before .before in
+    let answer = c .before .before .before .before .before .before .before .answer in
+    let walk = c .before .before .before .before .before .before .before .before .before .before .before .before .before .walk in
+    let mark = c .before .before .before .before .before .before .before .before .before .before .before .before .before .before .before .before .before .before .mark in
+    let passed = c .before .before .before .before .before .before .before .before .before .before .before .before .before .before .before .before .before .before .before .before in
     let clear = cleared (passed .before) .clear in
+    let start = entry (passed .before) in
+    let h = automaton start in
     record {
-      answers = judged-given (automaton (entry (passed .before))) _ _ _ (checked (passed .before) .refusal .ensures) (passed .if1 .left) (follow .ensures);
-      now-zero = last .0 ∙ ap zeros (follow .kept .1 .1 .1 .1 .1 .1 .1 .0 ∙ mark .kept .0 ∙ clear .kept .0);
-      next-zero = last .1 ∙ ap zeros (follow .kept .1 .1 .1 .1 .1 .1 .1 .1 .0 ∙ clear .kept .1 .0);
+      answers = judged-given h _ _ _ (checked (passed .before) .refusal .ensures) (passed .if1 .left)
+          (answer .ensures (h .arcs) (h .from) (h .letter) (h .to) _ _ (sound passed .1) _ (walk .ensures (h .accepting)));
+      now-zero = last .0 ∙ ap zeros (walk .kept .1 .1 .1 .1 .1 .1 .0 ∙ mark .kept .0 ∙ clear .kept .0);
+      next-zero = last .1 ∙ ap zeros (walk .kept .1 .1 .1 .1 .1 .1 .1 .0 ∙ clear .kept .1 .0);
     }
 
 pub judge-spec : {M : Type 1} → statement M
@@ -106,7 +115,8 @@ judge-spec =
     same-length-2
     returns
     mark-requires
-    follow-requires
+    walk-requires
+    answer-requires
     clear-requires-2
     same-length-3
     same-length-4

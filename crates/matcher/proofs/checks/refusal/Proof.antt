@@ -20,7 +20,7 @@ abbrev counts-passed : tie.After-ends-fit → tie.Else2
 counts-passed c = c .before .before
 
 abbrev automaton : tie.Start → Handed
-automaton c = handed (c .args .states) (c .args .accepting .now) (c .args .arcs) (c .args .from .now) (c .args .letter .now) (c .args .to .now)
+automaton c = handed (c .args .sizes .states) (c .args .accepting .now) (c .args .sizes .arcs) (c .args .from .now) (c .args .letter .now) (c .args .to .now)
 
 alike-true : (c : tie.Else1) → alike (automaton (entry (c .before))) ≡ true
 alike-true c = not-false _ (c .if1 .left)
@@ -39,13 +39,13 @@ values-given c = sym (ap₂ _&&_ (c .before .accepting-fits .ensures) (c .ends-f
 returns : tie.Need-returns
 returns c =
     let e = entry (c .before) in
-    numbered (automaton e) (e .args .current) (e .args .next) (not-true _ (c .if1 .taken)) refl refl refl
+    numbered (automaton e) (e .args .sizes .current) (e .args .sizes .next) (not-true _ (c .if1 .taken)) refl refl refl
 
 returns-2 : tie.Need-returns-2
 unfolding states-fit arcs-fit
 returns-2 c =
     let e = entry (c .before .before) in
-    numbered (automaton e) (e .args .current) (e .args .next) (alike-true (c .before)) (not-true _ (c .if2 .taken)) refl refl
+    numbered (automaton e) (e .args .sizes .current) (e .args .sizes .next) (alike-true (c .before)) (not-true _ (c .if2 .taken)) refl refl
 
 accepting-fits-requires : tie.Need-accepting-fits-requires
 accepting-fits-requires c κs = counts-told (automaton (entry (alike-passed c .before))) (counts-true c) .accepting-long
@@ -61,7 +61,7 @@ returns-3 : tie.Need-returns-3
 returns-3 c =
     let counts = counts-passed (c .before) in
     let e = entry (alike-passed counts .before) in
-    numbered (automaton e) (e .args .current) (e .args .next) (alike-true (alike-passed counts)) (counts-true counts)
+    numbered (automaton e) (e .args .sizes .current) (e .args .sizes .next) (alike-true (alike-passed counts)) (counts-true counts)
     (values-given (c .before) ∙ not-true _ (c .if3 .taken)) refl
 
 add-words : tie.Need-add-words
@@ -72,17 +72,17 @@ add-words c =
 
 returns-4 : tie.Need-returns-4
 returns-4 c =
-    let counts = counts-passed (c .before .before) in
+    let counts = counts-passed (c .before .before .before .before) in
     let e = entry (alike-passed counts .before) in
-    numbered (automaton e) (e .args .current) (e .args .next) (alike-true (alike-passed counts)) (counts-true counts)
-    (values-given (c .before .before) ∙ not-false _ (c .before .if3 .left)) (c .if4 .taken)
+    numbered (automaton e) (e .args .sizes .current) (e .args .sizes .next) (alike-true (alike-passed counts)) (counts-true counts)
+    (values-given (c .before .before .before .before) ∙ not-false _ (c .before .before .before .if3 .left)) (c .if4 .taken)
 
 returns-5 : tie.Need-returns-5
 returns-5 c =
-    let counts = counts-passed (c .before .before) in
+    let counts = counts-passed (c .before .before .before .before) in
     let e = entry (alike-passed counts .before) in
-    numbered (automaton e) (e .args .current) (e .args .next) (alike-true (alike-passed counts)) (counts-true counts)
-    (values-given (c .before .before) ∙ not-false _ (c .before .if3 .left)) (c .if4 .left)
+    numbered (automaton e) (e .args .sizes .current) (e .args .sizes .next) (alike-true (alike-passed counts)) (counts-true counts)
+    (values-given (c .before .before .before .before) ∙ not-false _ (c .before .before .before .if3 .left)) (c .if4 .left)
 
 pub refusal-spec : {M : Type 1} → statement M
 refusal-spec =

@@ -5,9 +5,19 @@ use mathlib.Core.Path.{refl, _∙_, sym}
 use mathlib.Core.Logic.{inl}
 use Rattle.theory.specs.Table.{table}
 use Rattle.columns.specs.Row.{as-row}
-use Rattle.reader.proofs.Stepped.{step-end, step-byte, close-at}
+use Rattle.reader.proofs.Stepped.{Stepped, step-end, step-byte, close-at}
 use Rattle.reader.proofs.entries.close.Statement.{statement}
 use Rattle.reader.proofs.entries.close.Tie as tie
+
+-- ---- The byte, and what is known there
+
+abbrev entry : tie.After-byte → tie.Start
+entry c = c .before .before .before .before .before .before .before .before
+
+stepped : (c : tie.After-byte) → Stepped (entry c .args .text .now) (entry c .args .at .cursor .at) (c .byte .given .0 .0) (c .byte .given .0 .1 .0)
+stepped c = step-byte (entry c .args .text .now) (entry c .args .at .cursor .at) _ (c .before .before .step .ensures) _ _ (c .byte .given .1)
+
+-- ---- The needs
 
 step-requires : tie.Need-step-requires
 step-requires c κs = search needs
@@ -20,12 +30,12 @@ enum-told c = search needs
 
 returns : tie.Need-returns
 returns c =
-    let a = c .before .before .before .before .before .before .before .args in
-    let past = step-end (a .text .now) (a .cursor .at) _ (c .before .before .step .ensures) (c .enum-told .given .1) in
+    let a = c .before .before .before .before .before .before .before .before .args in
+    let past = step-end (a .text .now) (a .at .cursor .at) _ (c .before .before .step .ensures) (c .enum-told .given .1) in
     (refl, inl (refl, λ l e. omega arith))
 
 entry-requires : tie.Need-entry-requires
-entry-requires c κs = search needs
+entry-requires c κs = (search needs, omega (arith, stepped (c .before .before .before .before .before) .next))
 
 same-length : tie.Need-same-length
 same-length c = search needs
@@ -40,18 +50,13 @@ returns-2 : tie.Need-returns-2
 returns-2 c =
     let at-entry = c .before .before .before .before .before .before in
     let at-byte = at-entry .before .before .before .before .before .before in
-    let a = at-byte .before .before .before .before .before .before .before .args in
-    let last = at-entry .entry .last .1 .1 .1 .1 .1 in
-    let stepped = step-byte (a .text .now) (a .cursor .at) _ (at-byte .before .before .step .ensures) _ _ (at-byte .byte .given .1) in
-    close-at (a .text .now) (a .room) (a .cursor .at) (a .made) _ _ (as-row (a .row)) (table (a .kind .now) (a .left .now) (a .right .now))
-    (at-entry .entry .result) (table (last .0) (last .1 .0) (last .1 .1 .0)) stepped (at-entry .before .before .before .before .if1 .taken) (at-entry .entry .ensures)
+    let a = entry at-byte .args in
+    let last = at-entry .entry .last .1 .1 in
+    close-at (a .text .now) (a .at .room) (a .at .cursor .at) (a .at .made) _ _ (as-row (a .row)) (table (a .kind .now) (a .left .now) (a .right .now))
+    (at-entry .entry .result) (table (last .0) (last .1 .0) (last .1 .1 .0)) (stepped at-byte) (at-entry .before .before .before .before .if1 .taken) (at-entry .entry .ensures)
 
 returns-3 : tie.Need-returns-3
-returns-3 c =
-    let at-byte = c .before .before in
-    let a = at-byte .before .before .before .before .before .before .before .args in
-    let stepped = step-byte (a .text .now) (a .cursor .at) _ (at-byte .before .before .step .ensures) _ _ (at-byte .byte .given .1) in
-    (refl, inl (refl, λ l e. c .if1 .left (sym (stepped .here) ∙ e)))
+returns-3 c = (refl, inl (refl, λ l e. c .if1 .left (sym (stepped (c .before .before) .here) ∙ e)))
 
 pub close-spec : {M : Type 1} → statement M
 close-spec =

@@ -10,10 +10,11 @@ use borrow.Fn.Kinds.{In}
 use borrow.Fn.PlainCycle.{Measures, is, falls, and}
 use Rattle.theory.specs.Table.{table}
 use Rattle.theory.specs.Grammar.{byte-*}
+use Rattle.theory.specs.Scan.{token}
 use Rattle.reader.specs.declared.entries.Found.{Found}
-use Rattle.reader.specs.Found.{Sign-at, Start, start, Behind, Answered, Unstarred}
+use Rattle.reader.specs.Found.{Leaf-row, Sign-at, Start, begins, Behind, Answered, Unstarred}
 use Rattle.reader.proofs.Stepped.{Stepped, step-end, step-byte}
-use Rattle.reader.proofs.Answers.{end-answers, leaf-answers, behind-positive}
+use Rattle.reader.proofs.Answers.{end-answers, leaf-refused, leaf-made, behind-positive}
 use Rattle.reader.proofs.Pair.{Inside, Left, Signed, within-pair, inside, deep-answers, left, left-refused, signed-on, signed-kind, sign-refused, right-refused, pair-answers}
 use Rattle.reader.proofs.rules.expression.Reads as expression
 use Rattle.reader.proofs.rules.expression.Kinds as expression-kinds
@@ -23,6 +24,7 @@ use Rattle.reader.proofs.rules.operand.Kinds as operand-kinds
 use Rattle.reader.proofs.rules.+expression+operand.Lts-operand as operand-lts
 use Rattle.columns.proofs.Cursor.step.Reads as step-reads
 use Rattle.reader.proofs.entries.close.Reads as close-reads
+use Rattle.reader.proofs.entries.entry.Reads as entry-reads
 use Rattle.reader.proofs.entries.leaf.Reads as leaf-reads
 use Rattle.reader.proofs.entries.sign.Reads as sign-reads
 use Rattle.reader.proofs.entries.stars.Reads as stars-reads
@@ -30,10 +32,10 @@ use Rattle.reader.proofs.rules.+expression+operand.{statement}
 use Rattle.reader.proofs.rules.+expression+operand.Tie.{close}
 
 abbrev μ-expression : Measures 4 expression-kinds.ps ℕ
-μ-expression κs a = (length (a .0 .now) - a .1 .0 .at) + (64 - a .1 .1 .0) + 1
+μ-expression κs a = (length (a .0 .now) - a .1 .0 .cursor .at) + (64 - a .1 .0 .depth) + 1
 
 abbrev μ-operand : Measures 4 operand-kinds.ps ℕ
-μ-operand κs a = (length (a .0 .now) - a .1 .0 .at) + (64 - a .1 .1 .0)
+μ-operand κs a = (length (a .0 .now) - a .1 .0 .cursor .at) + (64 - a .1 .0 .depth)
 
 abbrev expression-at : ℕ → In 4 expression-kinds.ps
 expression-at t =
@@ -59,6 +61,8 @@ operand-calls t = (
   step-reads.Learnt,
   leaf-reads.Asked,
   leaf-reads.Learnt,
+  entry-reads.Asked,
+  entry-reads.Learnt,
   expression-below t,
   expression.Post,
   sign-reads.Asked,
@@ -68,17 +72,25 @@ operand-calls t = (
 )
 
 module _ (t : ℕ) where
-  -- ---- `expression`
+  -- ---- `expression`: the operand's answer, and what is known of it
+
+  abbrev first-call : expression-lts.After-first (expression-calls t) (expression-at t) expression.Post → expression-lts.After-operand (expression-calls t) (expression-at t) expression.Post
+  first-call c = c .before .before .before .before .before .before .before .before
+
+  abbrev expression-start : expression-lts.After-operand (expression-calls t) (expression-at t) expression.Post → expression-lts.Start (expression-calls t) (expression-at t) expression.Post
+  expression-start c = c .before .before .before .before .before .before .before .before
+
+  abbrev expression-begins : expression-lts.Start (expression-calls t) (expression-at t) expression.Post → Start
+  expression-begins c = begins (c .args .at) (table (c .args .kind .now) (c .args .left .now) (c .args .right .now))
 
   first-found : (c : expression-lts.After-first (expression-calls t) (expression-at t) expression.Post)
-      → let a = c .before .before .before .before .before .before .before .before .before .before .before .before .before .before .before .before .args in let last = c .before .before .before .before .before .before .before .before .operand .last .1 .1 .1 .1 .1 in
-      Behind (a .room) (a .text .now) (start (a .depth) (a .cursor .at) (a .made) (table (a .kind .now) (a .left .now) (a .right .now)))
-      (c .first .given .0 .1 .0 .at) (c .first .given .0 .0) (table (last .0) (last .1 .0) (last .1 .1 .0))
+      → let s = expression-start (first-call c) in let last = first-call c .operand .last .1 .1 in
+      Behind (s .args .at .room) (s .args .text .now) (expression-begins s) (c .first .given .0 .1 .0 .at) (c .first .given .0 .0) (table (last .0) (last .1 .0) (last .1 .1 .0))
   first-found c =
-      let a = c .before .before .before .before .before .before .before .before .before .before .before .before .before .before .before .before .args in
-      let last = c .before .before .before .before .before .before .before .before .operand .last .1 .1 .1 .1 .1 in
-      subst (λ (r : Found). Answered (a .room) (a .text .now) (start (a .depth) (a .cursor .at) (a .made) (table (a .kind .now) (a .left .now) (a .right .now))) r
-      (table (last .0) (last .1 .0) (last .1 .1 .0))) (c .first .given .1) (c .before .before .before .before .before .before .before .before .operand .ensures)
+      let s = expression-start (first-call c) in
+      let last = first-call c .operand .last .1 .1 in
+      subst (λ (r : Found). Answered (s .args .at .room) (s .args .text .now) (expression-begins s) r (table (last .0) (last .1 .0) (last .1 .1 .0)))
+      (c .first .given .1) (first-call c .operand .ensures)
 
   expression-operand-requires : expression-lts.Need-operand-requires (expression-calls t) (expression-at t) expression.Post
   expression-operand-requires c κs = search needs
@@ -99,7 +111,9 @@ module _ (t : ℕ) where
   expression-same-length-3 c = search needs
 
   expression-returns : expression-lts.Need-returns (expression-calls t) (expression-at t) expression.Post
-  expression-returns c = (c .before .before .before .before .before .before .before .before .operand .ensures, subst (Unstarred (c .before .before .before .before .before .before .before .before .before .before .before .before .before .before .before .before .args .text .now)) (sym (c .enum-told .given .1)) tt)
+  expression-returns c =
+      let called = c .before .before .before .before .before .before .before .before in
+      (called .operand .ensures, subst (Unstarred (expression-start called .args .text .now)) (sym (c .enum-told .given .1)) tt)
 
   expression-stars-requires : expression-lts.Need-stars-requires (expression-calls t) (expression-at t) expression.Post
   expression-stars-requires c κs =
@@ -116,67 +130,106 @@ module _ (t : ℕ) where
   expression-same-length-6 c = search needs
 
   expression-returns-2 : expression-lts.Need-returns-2 (expression-calls t) (expression-at t) expression.Post
-  expression-returns-2 c = (c .before .before .before .before .before .before .stars .ensures .0 _ (first-found (c .before .before .before .before .before .before .before .before .before .before .before)), c .before .before .before .before .before .before .stars .ensures .1)
+  expression-returns-2 c =
+      let called = c .before .before .before .before .before .before .stars .ensures in
+      (called .0 _ (first-found (c .before .before .before .before .before .before .before .before .before .before .before)), called .1)
 
-  -- ---- `operand`
+  -- ---- `operand`: its places, from the byte on
 
-  abbrev begins : operand-lts.Start (operand-calls t) (operand-at t) operand.Post → Start
-  begins c = start (c .args .depth) (c .args .cursor .at) (c .args .made) (table (c .args .kind .now) (c .args .left .now) (c .args .right .now))
+  abbrev operand-start : operand-lts.After-byte (operand-calls t) (operand-at t) operand.Post → operand-lts.Start (operand-calls t) (operand-at t) operand.Post
+  operand-start c = c .before .before .before .before .before .before .before .before
+
+  abbrev byte-read : operand-lts.Else2 (operand-calls t) (operand-at t) operand.Post → operand-lts.After-byte (operand-calls t) (operand-at t) operand.Post
+  byte-read c = c .before .before .before
+
+  abbrev opened : operand-lts.After-expression (operand-calls t) (operand-at t) operand.Post → operand-lts.Else2 (operand-calls t) (operand-at t) operand.Post
+  opened c = c .before .before .before .before
+
+  abbrev left-call : operand-lts.After-x (operand-calls t) (operand-at t) operand.Post → operand-lts.After-expression (operand-calls t) (operand-at t) operand.Post
+  left-call c = c .before .before .before .before .before .before .before .before
+
+  abbrev left-read : operand-lts.After-sign2 (operand-calls t) (operand-at t) operand.Post → operand-lts.After-x (operand-calls t) (operand-at t) operand.Post
+  left-read c = c .before .before .before .before
+
+  abbrev sign-read : operand-lts.After-expression2 (operand-calls t) (operand-at t) operand.Post → operand-lts.After-sign2 (operand-calls t) (operand-at t) operand.Post
+  sign-read c = c .before .before .before .before .before
+
+  abbrev right-call : operand-lts.After-y (operand-calls t) (operand-at t) operand.Post → operand-lts.After-expression2 (operand-calls t) (operand-at t) operand.Post
+  right-call c = c .before .before .before .before .before .before .before .before
+
+  -- ---- What is known at each
+
+  abbrev operand-begins : operand-lts.Start (operand-calls t) (operand-at t) operand.Post → Start
+  operand-begins c = begins (c .args .at) (table (c .args .kind .now) (c .args .left .now) (c .args .right .now))
+
+  abbrev x-start : operand-lts.After-x (operand-calls t) (operand-at t) operand.Post → operand-lts.Start (operand-calls t) (operand-at t) operand.Post
+  x-start c = operand-start (byte-read (opened (left-call c)))
+
+  abbrev y-start : operand-lts.After-y (operand-calls t) (operand-at t) operand.Post → operand-lts.Start (operand-calls t) (operand-at t) operand.Post
+  y-start c = x-start (left-read (sign-read (right-call c)))
 
   stepped : (c : operand-lts.After-byte (operand-calls t) (operand-at t) operand.Post)
-      → Stepped (c .before .before .before .before .before .before .before .args .text .now) (c .before .before .before .before .before .before .before .args .cursor .at) (c .byte .given .0 .0) (c .byte .given .0 .1 .0)
-  stepped c = step-byte (c .before .before .before .before .before .before .before .args .text .now) (c .before .before .before .before .before .before .before .args .cursor .at) _ (c .before .before .step .ensures) _ _ (c .byte .given .1)
+      → Stepped (operand-start c .args .text .now) (operand-start c .args .at .cursor .at) (c .byte .given .0 .0) (c .byte .given .0 .1 .0)
+  stepped c = step-byte (operand-start c .args .text .now) (operand-start c .args .at .cursor .at) _ (c .before .before .step .ensures) _ _ (c .byte .given .1)
 
   opened-at : (c : operand-lts.Else2 (operand-calls t) (operand-at t) operand.Post)
-      → Inside (c .before .before .before .before .before .before .before .before .before .before .args .room) (c .before .before .before .before .before .before .before .before .before .before .args .text .now) (begins (c .before .before .before .before .before .before .before .before .before .before)) (c .before .before .before .byte .given .0 .1 .0 .at)
-  opened-at c = inside (c .before .before .before .before .before .before .before .before .before .before .pre .1) (stepped (c .before .before .before)) (c .before .if1 .left) (omega (arith, c .if2 .left, c .before .before .before .before .before .before .before .before .before .before .pre .1 .shallow))
+      → let s = operand-start (byte-read c) in
+      Inside (s .args .at .room) (s .args .text .now) (operand-begins s) (byte-read c .byte .given .0 .1 .0 .at)
+  opened-at c =
+      let pre = operand-start (byte-read c) .pre .1 in
+      inside pre (stepped (byte-read c)) (c .before .if1 .left) (omega (arith, c .if2 .left, pre .shallow))
 
   left-found : (c : operand-lts.After-x (operand-calls t) (operand-at t) operand.Post)
-      → let s = c .before .before .before .before .before .before .before .before .before .before .before .before .before .before .before .before .before .before .before .before .before .before in let last = c .before .before .before .before .before .before .before .before .expression .last .1 .1 .1 .1 .1 in
-      Behind (s .args .room) (s .args .text .now)
-      (within-pair (begins s) (c .before .before .before .before .before .before .before .before .before .before .before .before .before .before .before .byte .given .0 .1 .0 .at) (s .args .made) (table (s .args .kind .now) (s .args .left .now) (s .args .right .now)))
+      → let s = x-start c in let last = left-call c .expression .last .1 .1 in
+      Behind (s .args .at .room) (s .args .text .now)
+      (within-pair (operand-begins s) (byte-read (opened (left-call c)) .byte .given .0 .1 .0 .at) (s .args .at .made) (operand-begins s .columns))
       (c .x .given .0 .1 .0 .at) (c .x .given .0 .0) (table (last .0) (last .1 .0) (last .1 .1 .0))
   left-found c =
-      let s = c .before .before .before .before .before .before .before .before .before .before .before .before .before .before .before .before .before .before .before .before .before .before in
-      let last = c .before .before .before .before .before .before .before .before .expression .last .1 .1 .1 .1 .1 in
-      subst (λ (r : Found). Answered (s .args .room) (s .args .text .now)
-      (within-pair (begins s) (c .before .before .before .before .before .before .before .before .before .before .before .before .before .before .before .byte .given .0 .1 .0 .at) (s .args .made) (table (s .args .kind .now) (s .args .left .now) (s .args .right .now))) r
-      (table (last .0) (last .1 .0) (last .1 .1 .0))) (c .x .given .1) (c .before .before .before .before .before .before .before .before .expression .ensures .0)
+      let s = x-start c in
+      let last = left-call c .expression .last .1 .1 in
+      subst (λ (r : Found). Answered (s .args .at .room) (s .args .text .now)
+      (within-pair (operand-begins s) (byte-read (opened (left-call c)) .byte .given .0 .1 .0 .at) (s .args .at .made) (operand-begins s .columns)) r
+      (table (last .0) (last .1 .0) (last .1 .1 .0))) (c .x .given .1) (left-call c .expression .ensures .0)
 
   left-at : (c : operand-lts.After-x (operand-calls t) (operand-at t) operand.Post)
-      → let s = c .before .before .before .before .before .before .before .before .before .before .before .before .before .before .before .before .before .before .before .before .before .before in let last = c .before .before .before .before .before .before .before .before .expression .last .1 .1 .1 .1 .1 in
-      Left (s .args .room) (s .args .text .now) (begins s) (c .x .given .0 .1 .0 .at) (c .x .given .0 .0) (table (last .0) (last .1 .0) (last .1 .1 .0))
+      → let s = x-start c in let last = left-call c .expression .last .1 .1 in
+      Left (s .args .at .room) (s .args .text .now) (operand-begins s) (c .x .given .0 .1 .0 .at) (c .x .given .0 .0) (table (last .0) (last .1 .0) (last .1 .1 .0))
   left-at c =
-      left (opened-at (c .before .before .before .before .before .before .before .before .before .before .before .before)) (left-found c) (subst (Unstarred (c .before .before .before .before .before .before .before .before .before .before .before .before .before .before .before .before .before .before .before .before .before .before .args .text .now)) (c .x .given .1) (c .before .before .before .before .before .before .before .before .expression .ensures .1))
+      left (opened-at (opened (left-call c))) (left-found c) (subst (Unstarred (x-start c .args .text .now)) (c .x .given .1) (left-call c .expression .ensures .1))
 
   signed-at : (c : operand-lts.After-sign2 (operand-calls t) (operand-at t) operand.Post)
-      → let s = c .before .before .before .before .before .before .before .before .before .before .before .before .before .before .before .before .before .before .before .before .before .before .before .before .before .before in let last = c .before .before .before .before .before .before .before .before .before .before .before .before .expression .last .1 .1 .1 .1 .1 in
-      Signed (s .args .room) (s .args .text .now) (begins s) (c .sign2 .given .0 .0) (c .sign2 .given .0 .1 .0 .at) (c .before .before .before .before .x .given .0 .0) (table (last .0) (last .1 .0) (last .1 .1 .0))
+      → let s = x-start (left-read c) in let last = left-call (left-read c) .expression .last .1 .1 in
+      Signed (s .args .at .room) (s .args .text .now) (operand-begins s) (c .sign2 .given .0 .0) (c .sign2 .given .0 .1 .0 .at) (left-read c .x .given .0 .0) (table (last .0) (last .1 .0) (last .1 .1 .0))
   signed-at c =
-      signed-on (left-at (c .before .before .before .before)) (subst (Sign-at (c .before .before .before .before .before .before .before .before .before .before .before .before .before .before .before .before .before .before .before .before .before .before .before .before .before .before .args .text .now) (c .before .before .before .before .x .given .0 .1 .0 .at)) (c .sign2 .given .1) (c .before .before .sign .ensures))
+      let x = left-read c in
+      signed-on (left-at x) (subst (Sign-at (x-start x .args .text .now) (x .x .given .0 .1 .0 .at)) (c .sign2 .given .1) (c .before .before .sign .ensures))
 
   right-found : (c : operand-lts.After-y (operand-calls t) (operand-at t) operand.Post)
-      → let s = c .before .before .before .before .before .before .before .before .before .before .before .before .before .before .before .before .before .before .before .before .before .before .before .before .before .before .before .before .before .before .before .before .before .before .before .before .before .before .before in let last = c .before .before .before .before .before .before .before .before .before .before .before .before .before .before .before .before .before .before .before .before .before .before .before .before .before .expression .last .1 .1 .1 .1 .1 in let last₂ = c .before .before .before .before .before .before .before .before .expression2 .last .1 .1 .1 .1 .1 in
-      Behind (s .args .room) (s .args .text .now) (within-pair (begins s) (c .before .before .before .before .before .before .before .before .before .before .before .before .before .sign2 .given .0 .1 .0 .at) (c .before .before .before .before .before .before .before .before .before .before .before .before .before .before .before .before .before .x .given .0 .0) (table (last .0) (last .1 .0) (last .1 .1 .0)))
+      → let s = y-start c in let sign = sign-read (right-call c) in let last = left-call (left-read sign) .expression .last .1 .1 in let last₂ = right-call c .expression2 .last .1 .1 in
+      Behind (s .args .at .room) (s .args .text .now)
+      (within-pair (operand-begins s) (sign .sign2 .given .0 .1 .0 .at) (left-read sign .x .given .0 .0) (table (last .0) (last .1 .0) (last .1 .1 .0)))
       (c .y .given .0 .1 .0 .at) (c .y .given .0 .0) (table (last₂ .0) (last₂ .1 .0) (last₂ .1 .1 .0))
   right-found c =
-      let s = c .before .before .before .before .before .before .before .before .before .before .before .before .before .before .before .before .before .before .before .before .before .before .before .before .before .before .before .before .before .before .before .before .before .before .before .before .before .before .before in
-      let last = c .before .before .before .before .before .before .before .before .before .before .before .before .before .before .before .before .before .before .before .before .before .before .before .before .before .expression .last .1 .1 .1 .1 .1 in
-      let last₂ = c .before .before .before .before .before .before .before .before .expression2 .last .1 .1 .1 .1 .1 in
-      subst (λ (r : Found). Answered (s .args .room) (s .args .text .now)
-      (within-pair (begins s) (c .before .before .before .before .before .before .before .before .before .before .before .before .before .sign2 .given .0 .1 .0 .at) (c .before .before .before .before .before .before .before .before .before .before .before .before .before .before .before .before .before .x .given .0 .0) (table (last .0) (last .1 .0) (last .1 .1 .0))) r (table (last₂ .0) (last₂ .1 .0) (last₂ .1 .1 .0)))
-      (c .y .given .1) (c .before .before .before .before .before .before .before .before .expression2 .ensures .0)
+      let s = y-start c in
+      let sign = sign-read (right-call c) in
+      let last = left-call (left-read sign) .expression .last .1 .1 in
+      let last₂ = right-call c .expression2 .last .1 .1 in
+      subst (λ (r : Found). Answered (s .args .at .room) (s .args .text .now)
+      (within-pair (operand-begins s) (sign .sign2 .given .0 .1 .0 .at) (left-read sign .x .given .0 .0) (table (last .0) (last .1 .0) (last .1 .1 .0))) r
+      (table (last₂ .0) (last₂ .1 .0) (last₂ .1 .1 .0))) (c .y .given .1) (right-call c .expression2 .ensures .0)
 
-  right-unstarred : (c : operand-lts.After-y (operand-calls t) (operand-at t) operand.Post) → getD (c .before .before .before .before .before .before .before .before .before .before .before .before .before .before .before .before .before .before .before .before .before .before .before .before .before .before .before .before .before .before .before .before .before .before .before .before .before .before .before .args .text .now) (c .y .given .0 .1 .0 .at) 0 ≡ byte-* → ⊥
-  right-unstarred c = subst (Unstarred (c .before .before .before .before .before .before .before .before .before .before .before .before .before .before .before .before .before .before .before .before .before .before .before .before .before .before .before .before .before .before .before .before .before .before .before .before .before .before .before .args .text .now)) (c .y .given .1) (c .before .before .before .before .before .before .before .before .expression2 .ensures .1)
+  right-unstarred : (c : operand-lts.After-y (operand-calls t) (operand-at t) operand.Post) → getD (y-start c .args .text .now) (c .y .given .0 .1 .0 .at) 0 ≡ byte-* → ⊥
+  right-unstarred c = subst (Unstarred (y-start c .args .text .now)) (c .y .given .1) (right-call c .expression2 .ensures .1)
 
-  both-made : (c : operand-lts.After-known-told4 (operand-calls t) (operand-at t) operand.Post)
-      → let first = c .before .before .before .before .before .before .before .before .before .before .before .before .before .before .before .before .before .before .x .given .0 .0 in let second = c .before .y .given .0 .0 in (0 < first) × (first ≤ 512) × (0 < second) × (second ≤ 512)
+  both-made : (c : operand-lts.After-y (operand-calls t) (operand-at t) operand.Post)
+      → let first = left-read (sign-read (right-call c)) .x .given .0 .0 in let second = c .y .given .0 .0 in (0 < first) × (first ≤ 512) × (0 < second) × (second ≤ 512)
   both-made c =
-      let x = left-found (c .before .before .before .before .before .before .before .before .before .before .before .before .before .before .before .before .before .before) in
-      let y = right-found (c .before) in
-      let small = c .before .before .before .before .before .before .before .before .before .before .before .before .before .before .before .before .before .before .before .before .before .before .before .before .before .before .before .before .before .before .before .before .before .before .before .before .before .before .before .before .pre .1 .room-left .small in
+      let x = left-found (left-read (sign-read (right-call c))) in
+      let y = right-found c in
+      let small = y-start c .pre .1 .room-left .small in
       (behind-positive _ _ x, omega (arith, x .fits), behind-positive _ _ y, omega (arith, y .fits))
+
+  -- ---- Its needs
 
   operand-step-requires : operand-lts.Need-step-requires (operand-calls t) (operand-at t) operand.Post
   operand-step-requires c κs = search needs
@@ -189,11 +242,27 @@ module _ (t : ℕ) where
 
   operand-returns : operand-lts.Need-returns (operand-calls t) (operand-at t) operand.Post
   operand-returns c =
-      let a = c .before .before .before .before .before .before .before .args in
-      end-answers (a .room) (a .text .now) (begins (c .before .before .before .before .before .before .before)) (step-end (a .text .now) (a .cursor .at) _ (c .before .before .step .ensures) (c .enum-told .given .1))
+      let s = c .before .before .before .before .before .before .before .before in
+      end-answers (s .args .at .room) (s .args .text .now) (operand-begins s) (step-end (s .args .text .now) (s .args .at .cursor .at) _ (c .before .before .step .ensures) (c .enum-told .given .1))
 
   operand-leaf-requires : operand-lts.Need-leaf-requires (operand-calls t) (operand-at t) operand.Post
   operand-leaf-requires c κs = search needs
+
+  operand-enum-known-row : operand-lts.Need-enum-known-row (operand-calls t) (operand-at t) operand.Post
+  operand-enum-known-row c = search needs
+
+  operand-enum-told-2 : operand-lts.Need-enum-told-2 (operand-calls t) (operand-at t) operand.Post
+  operand-enum-told-2 c = search needs
+
+  operand-returns-2 : operand-lts.Need-returns-2 (operand-calls t) (operand-at t) operand.Post
+  operand-returns-2 c =
+      let byte = c .before .before .before .before .before in
+      let s = operand-start byte in
+      leaf-refused (s .args .at .room) (s .args .text .now) (operand-begins s) (s .pre .1) (stepped byte) (c .before .before .before .if1 .taken)
+      (subst (Leaf-row (token (byte .byte .given .0 .0))) (c .enum-told2 .given .1) (c .before .before .leaf .ensures))
+
+  operand-entry-requires : operand-lts.Need-entry-requires (operand-calls t) (operand-at t) operand.Post
+  operand-entry-requires c κs = (search needs, omega (arith, stepped (c .before .before .before .before .before .before .before .before .before) .next))
 
   operand-same-length : operand-lts.Need-same-length (operand-calls t) (operand-at t) operand.Post
   operand-same-length c = search needs
@@ -204,24 +273,30 @@ module _ (t : ℕ) where
   operand-same-length-3 : operand-lts.Need-same-length-3 (operand-calls t) (operand-at t) operand.Post
   operand-same-length-3 c = search needs
 
-  operand-returns-2 : operand-lts.Need-returns-2 (operand-calls t) (operand-at t) operand.Post
-  operand-returns-2 c =
-      let called = c .before .before .before .before .before .before .leaf in
-      let s = c .before .before .before .before .before .before .before .before .before .before .before .before .before .before .before .before .before .before .before in
-      let last = called .last .1 .1 .1 .1 .1 in
-      leaf-answers (s .args .room) (s .args .text .now) (begins s) (s .pre .1) _ _ (stepped (c .before .before .before .before .before .before .before .before .before .before .before .before)) (c .before .before .before .before .before .before .before .before .before .before .if1 .taken) (called .result)
-      (table (last .0) (last .1 .0) (last .1 .1 .0)) (called .ensures)
-
   operand-returns-3 : operand-lts.Need-returns-3 (operand-calls t) (operand-at t) operand.Post
-  operand-returns-3 c = deep-answers (c .before .before .before .before .before .before .before .before .before .before .pre .1) (stepped (c .before .before .before)) (c .before .if1 .left) (omega arith)
+  operand-returns-3 c =
+      let called = c .before .before .before .before .before .before in
+      let row = called .before .before .before .before .before in
+      let byte = row .before .before .before .before .before in
+      let s = operand-start byte in
+      let last = called .entry .last .1 .1 in
+      let leaf = subst (Leaf-row (token (byte .byte .given .0 .0))) (row .row .given .1) (row .before .before .leaf .ensures) in
+      leaf-made (s .args .at .room) (s .args .text .now) (operand-begins s) (s .pre .1) (stepped byte) _ (leaf .0) (leaf .1) (leaf .2 (s .args .at .made)) (called .entry .result)
+      (table (last .0) (last .1 .0) (last .1 .1 .0)) (called .entry .ensures)
 
-  operand-add-expression : operand-lts.Need-add-expression (operand-calls t) (operand-at t) operand.Post
-  operand-add-expression c = search needs
+  operand-returns-4 : operand-lts.Need-returns-4 (operand-calls t) (operand-at t) operand.Post
+  operand-returns-4 c =
+      let byte = c .before .before .before in
+      deep-answers (operand-start byte .pre .1) (stepped byte) (c .before .if1 .left) (omega arith)
+
+  operand-add-behind : operand-lts.Need-add-behind (operand-calls t) (operand-at t) operand.Post
+  operand-add-behind c = search needs
 
   operand-expression-requires : operand-lts.Need-expression-requires (operand-calls t) (operand-at t) operand.Post
   operand-expression-requires c κs =
-      let at = stepped (c .before .before .before .before .before .before) in
-      let pre = c .before .before .before .before .before .before .before .before .before .before .before .before .before .pre in
+      let byte = byte-read (c .before .before .before) in
+      let at = stepped byte in
+      let pre = operand-start byte .pre in
       let shallow = c .before .before .before .if2 .left in (
         omega (arith, at .inside, at .next, pre .0),
         record { room-left = pre .1 .room-left; shallow = omega (arith, pre .1 .shallow); within = omega (arith, at .inside, at .next); fits = pre .1 .fits; no-zero = λ z. omega arith },
@@ -230,8 +305,8 @@ module _ (t : ℕ) where
   operand-enum-known-x : operand-lts.Need-enum-known-x (operand-calls t) (operand-at t) operand.Post
   operand-enum-known-x c = search needs
 
-  operand-enum-told-2 : operand-lts.Need-enum-told-2 (operand-calls t) (operand-at t) operand.Post
-  operand-enum-told-2 c = search needs
+  operand-enum-told-3 : operand-lts.Need-enum-told-3 (operand-calls t) (operand-at t) operand.Post
+  operand-enum-told-3 c = search needs
 
   operand-same-length-4 : operand-lts.Need-same-length-4 (operand-calls t) (operand-at t) operand.Post
   operand-same-length-4 c = search needs
@@ -242,8 +317,10 @@ module _ (t : ℕ) where
   operand-same-length-6 : operand-lts.Need-same-length-6 (operand-calls t) (operand-at t) operand.Post
   operand-same-length-6 c = search needs
 
-  operand-returns-4 : operand-lts.Need-returns-4 (operand-calls t) (operand-at t) operand.Post
-  operand-returns-4 c = left-refused (opened-at (c .before .before .before .before .before .before .before .before .before .before .before .before)) _ _ (c .enum-told2 .given .1) (c .before .before .before .before .before .before .before .before .expression .ensures .0)
+  operand-returns-5 : operand-lts.Need-returns-5 (operand-calls t) (operand-at t) operand.Post
+  operand-returns-5 c =
+      let called = c .before .before .before .before .before .before .before .before in
+      left-refused (opened-at (opened called)) _ _ (c .enum-told3 .given .1) (called .expression .ensures .0)
 
   operand-sign-requires : operand-lts.Need-sign-requires (operand-calls t) (operand-at t) operand.Post
   operand-sign-requires c κs = search needs
@@ -251,8 +328,8 @@ module _ (t : ℕ) where
   operand-enum-known-sign : operand-lts.Need-enum-known-sign (operand-calls t) (operand-at t) operand.Post
   operand-enum-known-sign c = search needs
 
-  operand-enum-told-3 : operand-lts.Need-enum-told-3 (operand-calls t) (operand-at t) operand.Post
-  operand-enum-told-3 c = search needs
+  operand-enum-told-4 : operand-lts.Need-enum-told-4 (operand-calls t) (operand-at t) operand.Post
+  operand-enum-told-4 c = search needs
 
   operand-same-length-7 : operand-lts.Need-same-length-7 (operand-calls t) (operand-at t) operand.Post
   operand-same-length-7 c = search needs
@@ -263,17 +340,15 @@ module _ (t : ℕ) where
   operand-same-length-9 : operand-lts.Need-same-length-9 (operand-calls t) (operand-at t) operand.Post
   operand-same-length-9 c = search needs
 
-  operand-returns-5 : operand-lts.Need-returns-5 (operand-calls t) (operand-at t) operand.Post
-  operand-returns-5 c = sign-refused (left-at (c .before .before .before .before)) _ _ (c .enum-told3 .given .1) (c .before .before .sign .ensures)
-
-  operand-add-expression-2 : operand-lts.Need-add-expression-2 (operand-calls t) (operand-at t) operand.Post
-  operand-add-expression-2 c = omega (arith, c .before .before .before .before .before .before .before .before .before .before .before .before .before .before .before .before .before .before .before .before .before .before .before .before .before .before .before .pre .1 .shallow)
+  operand-returns-6 : operand-lts.Need-returns-6 (operand-calls t) (operand-at t) operand.Post
+  operand-returns-6 c = sign-refused (left-at (c .before .before .before .before)) _ _ (c .enum-told4 .given .1) (c .before .before .sign .ensures)
 
   operand-expression-requires-2 : operand-lts.Need-expression-requires-2 (operand-calls t) (operand-at t) operand.Post
   operand-expression-requires-2 c κs =
-      let x = signed-at (c .before .before .before .before) in
-      let pre = c .before .before .before .before .before .before .before .before .before .before .before .before .before .before .before .before .before .before .before .before .before .before .before .before .before .before .before .before .before .before .pre in
-      let kept = c .before .before .before .before .before .before .before .before .before .before .before .before .before .before .before .before .expression .kept .1 .1 .1 .1 .1 in (
+      let x = signed-at (c .before .before .before .before) .half in
+      let left = left-read (c .before .before .before .before) in
+      let pre = x-start left .pre in
+      let kept = left-call left .expression .kept .1 .1 in (
         omega (arith, x .onward, x .within, pre .0),
         record { room-left = search needs; shallow = omega (arith, x .shallow); within = x .within; fits = x .fits; no-zero = λ z. omega arith },
       )
@@ -281,8 +356,8 @@ module _ (t : ℕ) where
   operand-enum-known-y : operand-lts.Need-enum-known-y (operand-calls t) (operand-at t) operand.Post
   operand-enum-known-y c = search needs
 
-  operand-enum-told-4 : operand-lts.Need-enum-told-4 (operand-calls t) (operand-at t) operand.Post
-  operand-enum-told-4 c = search needs
+  operand-enum-told-5 : operand-lts.Need-enum-told-5 (operand-calls t) (operand-at t) operand.Post
+  operand-enum-told-5 c = search needs
 
   operand-same-length-10 : operand-lts.Need-same-length-10 (operand-calls t) (operand-at t) operand.Post
   operand-same-length-10 c = search needs
@@ -293,45 +368,55 @@ module _ (t : ℕ) where
   operand-same-length-12 : operand-lts.Need-same-length-12 (operand-calls t) (operand-at t) operand.Post
   operand-same-length-12 c = search needs
 
-  operand-returns-6 : operand-lts.Need-returns-6 (operand-calls t) (operand-at t) operand.Post
-  operand-returns-6 c = right-refused (signed-at (c .before .before .before .before .before .before .before .before .before .before .before .before .before)) _ _ (c .enum-told4 .given .1) (c .before .before .before .before .before .before .before .before .expression2 .ensures .0)
-
-  operand-cast-t43 : operand-lts.Need-cast-t43 (operand-calls t) (operand-at t) operand.Post
-  operand-cast-t43 c = omega (arith, signed-kind (signed-at (c .before .before .before .before .before .before .before .before .before .before .before .before .before .before)))
-
-  operand-sub-t30 : operand-lts.Need-sub-t30 (operand-calls t) (operand-at t) operand.Post
-  operand-sub-t30 c = omega (arith, both-made c .0, both-made c .1, both-made c .2, both-made c .3)
+  operand-returns-7 : operand-lts.Need-returns-7 (operand-calls t) (operand-at t) operand.Post
+  operand-returns-7 c =
+      let called = c .before .before .before .before .before .before .before .before in
+      right-refused (signed-at (sign-read called)) _ _ (c .enum-told5 .given .1) (called .expression2 .ensures .0)
 
   operand-cast-t44 : operand-lts.Need-cast-t44 (operand-calls t) (operand-at t) operand.Post
-  operand-cast-t44 c = omega (arith, both-made c .0, both-made c .1, both-made c .2, both-made c .3)
+  operand-cast-t44 c = omega (arith, signed-kind (signed-at (sign-read (right-call (c .before)))))
 
   operand-sub-t45 : operand-lts.Need-sub-t45 (operand-calls t) (operand-at t) operand.Post
-  operand-sub-t45 c = omega (arith, both-made c .0, both-made c .1, both-made c .2, both-made c .3)
+  operand-sub-t45 c = let made = both-made (c .before) in omega (arith, made .0, made .1, made .2, made .3)
 
   operand-cast-t46 : operand-lts.Need-cast-t46 (operand-calls t) (operand-at t) operand.Post
-  operand-cast-t46 c = omega (arith, both-made c .0, both-made c .1, both-made c .2, both-made c .3)
+  operand-cast-t46 c = let made = both-made (c .before) in omega (arith, made .0, made .1, made .2, made .3)
+
+  operand-sub-t47 : operand-lts.Need-sub-t47 (operand-calls t) (operand-at t) operand.Post
+  operand-sub-t47 c = let made = both-made (c .before) in omega (arith, made .0, made .1, made .2, made .3)
+
+  operand-cast-t48 : operand-lts.Need-cast-t48 (operand-calls t) (operand-at t) operand.Post
+  operand-cast-t48 c = let made = both-made (c .before) in omega (arith, made .0, made .1, made .2, made .3)
 
   operand-close-requires : operand-lts.Need-close-requires (operand-calls t) (operand-at t) operand.Post
   operand-close-requires c κs =
-      let room-left = c .before .before .before .before .before .before .before .before .before .before .before .before .before .before .before .before .before .before .before .before .before .before .before .before .before .before .before .before .before .before .before .before .before .before .before .before .before .before .before .before .before .before .before .pre .1 .room-left in
-      let kept = c .before .before .before .before .before .before .before .before .before .before .before .before .before .before .before .before .before .before .before .before .before .before .before .before .before .before .before .before .before .expression .kept .1 .1 .1 .1 .1 in
-      let kept₂ = c .before .before .before .before .before .before .before .before .before .before .before .before .expression2 .kept .1 .1 .1 .1 .1 in
+      let right = c .before .before .before .before in
+      let room-left = y-start right .pre .1 .room-left in
+      let kept = left-call (left-read (sign-read (right-call right))) .expression .kept .1 .1 in
+      let kept₂ = right-call right .expression2 .kept .1 .1 in
       search needs
 
   operand-same-length-13 : operand-lts.Need-same-length-13 (operand-calls t) (operand-at t) operand.Post
-  operand-same-length-13 c = c .before .before .before .before .before .before .close .kept .1 .1 .1 .1 .1 .0 ∙ c .before .before .before .before .before .before .before .before .before .before .before .before .before .before .before .before .before .before .before .expression2 .kept .1 .1 .1 .1 .1 .0 ∙ c .before .before .before .before .before .before .before .before .before .before .before .before .before .before .before .before .before .before .before .before .before .before .before .before .before .before .before .before .before .before .before .before .before .before .before .before .expression .kept .1 .1 .1 .1 .1 .0
+  operand-same-length-13 c =
+      let right = right-call (c .before .before .before .before .before .before .before .before .before .before .before) in
+      c .before .before .before .before .before .before .close .kept .1 .1 .1 .0 ∙ right .expression2 .kept .1 .1 .0 ∙ left-call (left-read (sign-read right)) .expression .kept .1 .1 .0
 
   operand-same-length-14 : operand-lts.Need-same-length-14 (operand-calls t) (operand-at t) operand.Post
-  operand-same-length-14 c = c .before .before .before .before .before .before .close .kept .1 .1 .1 .1 .1 .1 .0 ∙ c .before .before .before .before .before .before .before .before .before .before .before .before .before .before .before .before .before .before .before .expression2 .kept .1 .1 .1 .1 .1 .1 .0 ∙ c .before .before .before .before .before .before .before .before .before .before .before .before .before .before .before .before .before .before .before .before .before .before .before .before .before .before .before .before .before .before .before .before .before .before .before .before .expression .kept .1 .1 .1 .1 .1 .1 .0
+  operand-same-length-14 c =
+      let right = right-call (c .before .before .before .before .before .before .before .before .before .before .before) in
+      c .before .before .before .before .before .before .close .kept .1 .1 .1 .1 .0 ∙ right .expression2 .kept .1 .1 .1 .0 ∙ left-call (left-read (sign-read right)) .expression .kept .1 .1 .1 .0
 
   operand-same-length-15 : operand-lts.Need-same-length-15 (operand-calls t) (operand-at t) operand.Post
-  operand-same-length-15 c = c .before .before .before .before .before .before .close .kept .1 .1 .1 .1 .1 .1 .1 .0 ∙ c .before .before .before .before .before .before .before .before .before .before .before .before .before .before .before .before .before .before .before .expression2 .kept .1 .1 .1 .1 .1 .1 .1 .0 ∙ c .before .before .before .before .before .before .before .before .before .before .before .before .before .before .before .before .before .before .before .before .before .before .before .before .before .before .before .before .before .before .before .before .before .before .before .before .expression .kept .1 .1 .1 .1 .1 .1 .1 .0
+  operand-same-length-15 c =
+      let right = right-call (c .before .before .before .before .before .before .before .before .before .before .before) in
+      c .before .before .before .before .before .before .close .kept .1 .1 .1 .1 .1 .0 ∙ right .expression2 .kept .1 .1 .1 .1 .0 ∙ left-call (left-read (sign-read right)) .expression .kept .1 .1 .1 .1 .0
 
-  operand-returns-7 : operand-lts.Need-returns-7 (operand-calls t) (operand-at t) operand.Post
-  operand-returns-7 c =
+  operand-returns-8 : operand-lts.Need-returns-8 (operand-calls t) (operand-at t) operand.Post
+  operand-returns-8 c =
       let called = c .before .before .before .before .before .before .close in
-      let last = called .last .1 .1 .1 .1 .1 in
-      pair-answers (signed-at (c .before .before .before .before .before .before .before .before .before .before .before .before .before .before .before .before .before .before .before .before .before .before .before .before)) (right-found (c .before .before .before .before .before .before .before .before .before .before .before)) (right-unstarred (c .before .before .before .before .before .before .before .before .before .before .before)) (called .result) (table (last .0) (last .1 .0) (last .1 .1 .0)) (called .ensures)
+      let right = c .before .before .before .before .before .before .before .before .before .before .before in
+      let last = called .last .1 .1 .1 in
+      pair-answers (signed-at (sign-read (right-call right))) (right-found right) (right-unstarred right) (called .result) (table (last .0) (last .1 .0) (last .1 .1 .0)) (called .ensures)
 
 pub +expression+operand-spec : {M : Type 1} → statement M
 +expression+operand-spec =
@@ -355,41 +440,44 @@ pub +expression+operand-spec : {M : Type 1} → statement M
     (operand-enum-told t)
     (operand-returns t)
     (operand-leaf-requires t)
+    (operand-enum-known-row t)
+    (operand-enum-told-2 t)
+    (operand-returns-2 t)
+    (operand-entry-requires t)
     (operand-same-length t)
     (operand-same-length-2 t)
     (operand-same-length-3 t)
-    (operand-returns-2 t)
     (operand-returns-3 t)
-    (operand-add-expression t)
+    (operand-returns-4 t)
+    (operand-add-behind t)
     (operand-expression-requires t)
     (operand-enum-known-x t)
-    (operand-enum-told-2 t)
+    (operand-enum-told-3 t)
     (operand-same-length-4 t)
     (operand-same-length-5 t)
     (operand-same-length-6 t)
-    (operand-returns-4 t)
+    (operand-returns-5 t)
     (operand-sign-requires t)
     (operand-enum-known-sign t)
-    (operand-enum-told-3 t)
+    (operand-enum-told-4 t)
     (operand-same-length-7 t)
     (operand-same-length-8 t)
     (operand-same-length-9 t)
-    (operand-returns-5 t)
-    (operand-add-expression-2 t)
+    (operand-returns-6 t)
     (operand-expression-requires-2 t)
     (operand-enum-known-y t)
-    (operand-enum-told-4 t)
+    (operand-enum-told-5 t)
     (operand-same-length-10 t)
     (operand-same-length-11 t)
     (operand-same-length-12 t)
-    (operand-returns-6 t)
-    (operand-cast-t43 t)
-    (operand-sub-t30 t)
+    (operand-returns-7 t)
     (operand-cast-t44 t)
     (operand-sub-t45 t)
     (operand-cast-t46 t)
+    (operand-sub-t47 t)
+    (operand-cast-t48 t)
     (operand-close-requires t)
     (operand-same-length-13 t)
     (operand-same-length-14 t)
     (operand-same-length-15 t)
-    (operand-returns-7 t))
+    (operand-returns-8 t))

@@ -1,13 +1,19 @@
 -- `whole` is a beginning with the end of the text behind it.
 use borrow.Author.Needs.{needs}
+use mathlib.Core.Path.{_≡_}
 use Rattle.theory.specs.Table.{table}
 use Rattle.reader.proofs.Stepped.{step-end, step-byte}
 use Rattle.reader.proofs.Whole.{whole-refused, whole-broken, whole-ended}
 use Rattle.reader.proofs.rules.whole.Statement.{statement}
 use Rattle.reader.proofs.rules.whole.Tie as tie
 
+start-requires : tie.Need-start-requires
+start-requires c κs = search needs
+
 beginning-requires : tie.Need-beginning-requires
-beginning-requires c κs = search needs
+beginning-requires c κs =
+    let start : c .before .before .before .start .result ≡ record { at = 0 } = λ i. record { at = c .before .before .before .start .ensures i } in
+    (search needs, λ i. record { cursor = start i; depth = 0; made = 0; room = c .before .before .before .before .before .before .before .before .args .room })
 
 enum-known-found : tie.Need-enum-known-found
 enum-known-found c = search needs
@@ -26,7 +32,7 @@ same-length-3 c = search needs
 
 returns : tie.Need-returns
 returns c =
-    let a = c .before .before .before .before .before .before .before .before .before .before .before .before .before .before .before .before .args in
+    let a = c .before .before .before .before .before .before .before .before .before .before .before .before .before .before .before .before .before .args in
     let called = c .before .before .before .before .before .before .before .before .beginning in
     let last = called .last .1 .1 in
     whole-refused (a .room) (a .text .now) (table (a .kind .now) (a .left .now) (a .right .now)) (table (last .0) (last .1 .0) (last .1 .1 .0)) (called .result) (c .enum-told .given .1) (called .ensures)
@@ -51,7 +57,7 @@ same-length-6 c = search needs
 
 returns-2 : tie.Need-returns-2
 returns-2 c =
-    let a = c .before .before .before .before .before .before .before .before .before .before .before .before .before .before .before .before .before .before .before .before .args in
+    let a = c .before .before .before .before .before .before .before .before .before .before .before .before .before .before .before .before .before .before .before .before .before .args in
     let called = c .before .before .before .before .before .before .before .before .before .before .before .before .beginning in
     let last = called .last .1 .1 in
     whole-broken (a .room) (a .text .now) (table (a .kind .now) (a .left .now) (a .right .now)) (table (last .0) (last .1 .0) (last .1 .1 .0)) (called .result) (c .before .before .before .before .found .given .1) (called .ensures)
@@ -68,7 +74,7 @@ same-length-9 c = search needs
 
 returns-3 : tie.Need-returns-3
 returns-3 c =
-    let a = c .before .before .before .before .before .before .before .before .before .before .before .before .before .before .before .before .before .before .before .before .args in
+    let a = c .before .before .before .before .before .before .before .before .before .before .before .before .before .before .before .before .before .before .before .before .before .args in
     let called = c .before .before .before .before .before .before .before .before .before .before .before .before .beginning in
     let last = called .last .1 .1 in
     whole-ended (a .room) (a .text .now) (table (a .kind .now) (a .left .now) (a .right .now)) (table (last .0) (last .1 .0) (last .1 .1 .0)) (called .result) (c .before .before .before .before .found .given .1) (called .ensures)
@@ -78,6 +84,7 @@ pub whole-spec : {M : Type 1} → statement M
 whole-spec =
     tie.close
     (tie.spec
+    start-requires
     beginning-requires
     enum-known-found
     enum-told

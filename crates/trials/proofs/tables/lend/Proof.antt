@@ -1,87 +1,65 @@
+-- `lend` lends so much of each array as its rooms say. Assumes nothing.
 use borrow.Author.Needs.{needs}
 use Prim.Native.Nat.{ℕ}
 use lib.ListN.{length-replicate}
 use Rattle.trials.proofs.Prefix.{prefix-length}
 use Rattle.trials.proofs.tables.lend.Statement.{statement}
 use Rattle.trials.proofs.tables.lend.Tie as tie
-use Rattle.trials.proofs.tables.lend.Reads as reads
-use Rattle.trials.proofs.tables.lend.Lts as lts
-use Rattle.builder.proofs.build.Reads as build-reads
-use Rattle.trials.proofs.tables.show.Reads as show-reads
 
--- src/tables.rt:42:9
 array-borrow-prefix-xkind : tie.Need-array-borrow-prefix-xkind
 array-borrow-prefix-xkind c = search needs
 
--- src/tables.rt:42:9
 slice-aggregate-build : tie.Need-slice-aggregate-build
 slice-aggregate-build c = prefix-length _ 1024 _ (length-replicate {A = ℕ} 1024 0) (c .before .before .before .before .pre .0)
 
--- src/tables.rt:43:9
 array-borrow-prefix-xleft : tie.Need-array-borrow-prefix-xleft
 array-borrow-prefix-xleft c = search needs
 
--- src/tables.rt:43:9
 slice-aggregate-build-2 : tie.Need-slice-aggregate-build-2
 slice-aggregate-build-2 c = prefix-length _ 1024 _ (length-replicate {A = ℕ} 1024 0) (c .before .before .before .before .before .pre .0)
 
--- src/tables.rt:44:9
 array-borrow-prefix-xright : tie.Need-array-borrow-prefix-xright
 array-borrow-prefix-xright c = search needs
 
--- src/tables.rt:44:9
 slice-aggregate-build-3 : tie.Need-slice-aggregate-build-3
 slice-aggregate-build-3 c = prefix-length _ 1024 _ (length-replicate {A = ℕ} 1024 0) (c .before .before .before .before .before .before .pre .0)
 
--- src/tables.rt:45:9
 array-borrow-prefix-expression : tie.Need-array-borrow-prefix-expression
 array-borrow-prefix-expression c = search needs
 
--- src/tables.rt:45:9
 slice-aggregate-build-4 : tie.Need-slice-aggregate-build-4
 slice-aggregate-build-4 c = prefix-length _ 512 _ (length-replicate {A = ℕ} 512 0) (c .before .before .before .before .before .before .before .pre .1)
 
--- src/tables.rt:46:9
 array-borrow-prefix-accepting : tie.Need-array-borrow-prefix-accepting
 array-borrow-prefix-accepting c = search needs
 
--- src/tables.rt:46:9
 slice-aggregate-build-5 : tie.Need-slice-aggregate-build-5
-slice-aggregate-build-5 c = prefix-length _ 512 _ (length-replicate {A = ℕ} 512 0) (c .before .before .before .before .before .before .before .before .pre .1)
+slice-aggregate-build-5 c = prefix-length _ 512 _ (length-replicate {A = ℕ} 512 0) (c .before .before .before .before .before .before .before .before .pre .2)
 
--- src/tables.rt:47:9
 array-borrow-prefix-from : tie.Need-array-borrow-prefix-from
 array-borrow-prefix-from c = search needs
 
--- src/tables.rt:47:9
 slice-aggregate-build-6 : tie.Need-slice-aggregate-build-6
-slice-aggregate-build-6 c = prefix-length _ 4096 _ (length-replicate {A = ℕ} 4096 0) (c .before .before .before .before .before .before .before .before .before .pre .2)
+slice-aggregate-build-6 c = prefix-length _ 4096 _ (length-replicate {A = ℕ} 4096 0) (c .before .before .before .before .before .before .before .before .before .pre .3)
 
--- src/tables.rt:48:9
 array-borrow-prefix-letter : tie.Need-array-borrow-prefix-letter
 array-borrow-prefix-letter c = search needs
 
--- src/tables.rt:48:9
 slice-aggregate-build-7 : tie.Need-slice-aggregate-build-7
-slice-aggregate-build-7 c = prefix-length _ 4096 _ (length-replicate {A = ℕ} 4096 0) (c .before .before .before .before .before .before .before .before .before .before .pre .2)
+slice-aggregate-build-7 c = prefix-length _ 4096 _ (length-replicate {A = ℕ} 4096 0) (c .before .before .before .before .before .before .before .before .before .before .pre .3)
 
--- src/tables.rt:49:9
 array-borrow-prefix-to : tie.Need-array-borrow-prefix-to
 array-borrow-prefix-to c = search needs
 
--- src/tables.rt:49:9
 slice-aggregate-build-8 : tie.Need-slice-aggregate-build-8
-slice-aggregate-build-8 c = prefix-length _ 4096 _ (length-replicate {A = ℕ} 4096 0) (c .before .before .before .before .before .before .before .before .before .before .before .pre .2)
+slice-aggregate-build-8 c = prefix-length _ 4096 _ (length-replicate {A = ℕ} 4096 0) (c .before .before .before .before .before .before .before .before .before .before .before .pre .3)
 
--- src/tables.rt:38:10
 build-requires : tie.Need-build-requires
 build-requires c κs = search needs
 
--- src/tables.rt:38:5
 show-requires : tie.Need-show-requires
 show-requires c κs = search needs
 
--- src/tables.rt:27:1
 returns : tie.Need-returns
 returns c = search needs
 
