@@ -156,7 +156,7 @@ fn complete(
 }
 
 // 01: "sets all lent output and work columns to zero".
-fn clear(
+pub fn clear(
     xkind: &mut [u8],
     xleft: &mut [u16],
     xright: &mut [u16],

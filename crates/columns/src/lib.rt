@@ -12,30 +12,24 @@ ghost use Rattle.columns.specs.Row.{as-row};
 pub fn clear8(column: &mut [u8])
     ensures { λ _. ⌜ now (column .exit) ≡ zeros (length (now (column .entry))) ⌝ }
 {
-    let mut i = 0;
-    while i < column.len() {
+    for i in 0..column.len() {
         column[i] = 0;
-        i += 1;
     }
 }
 
 pub fn clear16(column: &mut [u16])
     ensures { λ _. ⌜ now (column .exit) ≡ zeros (length (now (column .entry))) ⌝ }
 {
-    let mut i = 0;
-    while i < column.len() {
+    for i in 0..column.len() {
         column[i] = 0;
-        i += 1;
     }
 }
 
 pub fn clear64(column: &mut [u64])
     ensures { λ _. ⌜ now (column .exit) ≡ zeros (length (now (column .entry))) ⌝ }
 {
-    let mut i = 0;
-    while i < column.len() {
+    for i in 0..column.len() {
         column[i] = 0;
-        i += 1;
     }
 }
 

@@ -5,9 +5,10 @@ use mathlib.Core.Path.{_≡_, refl, sym, ap, _∙_, subst}
 use mathlib.Core.Logic.{inl}
 use mathlib.Core.List.{List, _∷_, List·Memᴰ}
 use lib.ListN.{length}
-use Rattle.theory.specs.Expression.{Expression}
-use Rattle.theory.specs.Distinct.{NoRepeats}
+use Rattle.theory.specs.Expression.{Expression, same}
+use Rattle.theory.specs.Distinct.{NoRepeats, beyond}
 use Rattle.theory.specs.Table.{Table, trees, tree-at}
+use Rattle.theory.proofs.Distinct.{beyond-nil}
 use Rattle.derive.specs.declared.sides.Side.{Side}
 use Rattle.derive.specs.declared.walk.Place.{Place}
 use Rattle.derive.specs.declared.walk.Place.the-variants.{Start, Behind}
@@ -15,9 +16,9 @@ use Rattle.derive.specs.declared.walk.Stepped.{Stepped}
 use Rattle.derive.specs.declared.walk.Stepped.the-variants.{Found, End, NoRoom}
 use Rattle.derive.specs.Rows.{Rows, Grown, Needed}
 use Rattle.derive.specs.Sides.{Within-row, side-list}
-use Rattle.derive.specs.Walk.{behind, beyond, first-of, to-come, In-list, Side-among, Outcome, Gives, Steps}
+use Rattle.derive.specs.Walk.{behind, first-of, to-come, In-list, Side-among, Outcome, Gives, Steps}
 use Rattle.derive.proofs.Growing.{grown-none, grown-trans}
-use Rattle.derive.proofs.Listing.{first-none, first-some, first-member, behind-head, behind-next, beyond-nil, beyond-keep, beyond-pass}
+use Rattle.derive.proofs.Listing.{first-none, first-some, first-member, behind-head, behind-next, beyond-keep, beyond-pass}
 use Rattle.derive.proofs.Needing.{short-more, needed-later, grown-list, grown-side}
 use Rattle.derive.proofs.SideStep.{to-come-within}
 use Rattle.derive.proofs.Siding.{side-no-repeats}
@@ -30,7 +31,7 @@ pub record Passed-over (t : Table) (n room a : ℕ) (x y : Side) (p : Place) (t�
   pub grown : Grown t n t′ n′
   pub fits : n′ ≤ room
   pub place : In-list t′ n′ p′ (side-list a t y)
-  pub rest : beyond (side-list a t x) (to-come t′ p′ (side-list a t y)) ≡ beyond (side-list a t x) (to-come t p (side-list a t y))
+  pub rest : beyond same (side-list a t x) (to-come t′ p′ (side-list a t y)) ≡ beyond same (side-list a t x) (to-come t p (side-list a t y))
   pub needed : (z : Expression) → List·Memᴰ z (trees t′ n′) → Needed t n (side-list a t y) z
 
 pub passed-none : {t : Table} {n room : ℕ} (a : ℕ) (x y : Side) (p : Place) → Rows t n → n ≤ room → Within-row n n x → Within-row n n y
@@ -85,7 +86,7 @@ module _ {t : Table} {n room a : ℕ} {x y : Side} {p : Place} {t′ : Table} {n
       turn-asks = (u, found .0 .rows, grown-side found-grown x (k .left-within), found .2)
 
       -- A member that x does not have is the next.
-      pub turn-found : (List·Memᴰ (tree-at t″ row) (side-list a t″ x) → ⊥) → Gives t n room ys (beyond xs (to-come t p ys)) (Found row u) t″
+      pub turn-found : (List·Memᴰ (tree-at t″ row) (side-list a t″ x) → ⊥) → Gives t n room ys (beyond same xs (to-come t p ys)) (Found row u) t″
       turn-found d =
           record {
             outcome = (
@@ -93,7 +94,7 @@ module _ {t : Table} {n room a : ℕ} {x y : Side} {p : Place} {t′ : Table} {n
               found .1,
               found .2,
               ap first-of
-                  (sym (k .rest) ∙ ap (beyond xs) (came .1)
+                  (sym (k .rest) ∙ ap (beyond same xs) (came .1)
                   ∙ beyond-keep xs (tree-at t″ row) (came .0) (λ m. d (subst (List·Memᴰ (tree-at t″ row)) (sym left-then) m))),
               λ z m. later z (found .4 z m),
             );
@@ -109,8 +110,8 @@ module _ {t : Table} {n room a : ℕ} {x y : Side} {p : Place} {t′ : Table} {n
             fits = found .1;
             place = (found .2, to-come-within t′ n′ p′ ys (first-member (to-come t′ p′ ys) (found .3)));
             rest =
-                ap (beyond xs) rest-then ∙ sym (beyond-pass xs (tree-at t″ row) (came .0) (subst (List·Memᴰ (tree-at t″ row)) left-then m))
-                ∙ sym (ap (beyond xs) (came .1)) ∙ k .rest;
+                ap (beyond same xs) rest-then ∙ sym (beyond-pass xs (tree-at t″ row) (came .0) (subst (List·Memᴰ (tree-at t″ row)) left-then m))
+                ∙ sym (ap (beyond same xs) (came .1)) ∙ k .rest;
             needed = λ z i. later z (found .4 z i);
           }
 
@@ -121,19 +122,19 @@ module _ {t : Table} {n room a : ℕ} {x y : Side} {p : Place} {t′ : Table} {n
 
   -- y's list ended, or there was no room.
   ended : (s : Stepped) {t″ : Table} → ((row u : ℕ) → s ≡ Found row u → ⊥) → Outcome t′ n′ room ys (to-come t′ p′ ys) s t″
-      → Gives t n room ys (beyond xs (to-come t p ys)) s t″
+      → Gives t n room ys (beyond same xs (to-come t p ys)) s t″
   ended (Found row u) d o = absurd (d row u refl)
   ended (End u) d o =
       record {
         outcome = (
           grown-trans (k .grown) (o .0),
           o .1,
-          ap first-of (sym (k .rest) ∙ ap (beyond xs) (first-none (to-come t′ p′ ys) (o .2)) ∙ beyond-nil xs),
+          ap first-of (sym (k .rest) ∙ ap (beyond same xs) (first-none (to-come t′ p′ ys) (o .2)) ∙ beyond-nil same xs),
           λ z m. later z (o .3 z m),
         );
       }
   ended NoRoom d o = record { outcome = short-more later o }
 
   pub turn-ended : {s : Stepped} {t″ : Table} → Steps t′ n′ room (side-list a t′ y) p′ s t″ → ((row u : ℕ) → s ≡ Found row u → ⊥)
-      → Gives t n room ys (beyond xs (to-come t p ys)) s t″
+      → Gives t n room ys (beyond same xs (to-come t p ys)) s t″
   turn-ended {s} g d = ended s d (outcome-then g)

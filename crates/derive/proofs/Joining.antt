@@ -3,7 +3,7 @@ use native.Mathlib.Omega.{arith}
 use mathlib.Core.Path.{_≡_, refl, sym, ap, _∙_, subst}
 use mathlib.Core.Bool.{Bool, true, false, cond}
 use mathlib.Core.Logic.{_⊎_, inl, inr}
-use mathlib.Core.List.{_++_, List·Memᴰ, List·Memᴰ·head, List·Memᴰ·eq-of-singleton, Memᴰ·append-left, Memᴰ·append-right}
+use mathlib.Core.List.{List·Memᴰ, List·Memᴰ·eq-of-singleton, Memᴰ·append-left, Memᴰ·append-right}
 use Rattle.theory.specs.Expression.{Expression, same, Sign, ∅, ε, letter, binary, star, parts, entries}
 use Rattle.theory.specs.Derivative.{literal-ε, joined}
 use Rattle.theory.proofs.Derivative.{joined-right, joined-left}
@@ -83,11 +83,3 @@ module _ (s : Sign) where
       go (yes p) d = inr (subst (λ x. List·Memᴰ z (parts x)) (sym (ap (λ z. beside s z f m) p ∙ beside-literal f m)) k)
       go (no n) (yes q) = inl (List·Memᴰ·eq-of-singleton (subst (λ x. List·Memᴰ z (parts x)) q k))
       go (no n) (no l) = inr (subst (λ x. List·Memᴰ z (parts x)) (sym (beside-pair o f m n l)) (pair-parts o f m k))
-
-pub whole-part : (e : Expression) → List·Memᴰ e (parts e)
-unfolding parts
-whole-part ∅ = List·Memᴰ·head refl
-whole-part ε = List·Memᴰ·head refl
-whole-part (letter a) = List·Memᴰ·head refl
-whole-part (binary s x y) = Memᴰ·append-right (parts x ++ parts y) (List·Memᴰ·head refl)
-whole-part (star x) = Memᴰ·append-right (parts x) (List·Memᴰ·head refl)

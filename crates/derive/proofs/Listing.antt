@@ -4,9 +4,9 @@ use mathlib.Core.Logic.{_⊎_, inl, inr}
 use mathlib.Core.Option.{Option, none, some, Option·some-injective}
 use mathlib.Core.List.{List, [], _∷_, _++_, map, List·Memᴰ, List·Memᴰ·head, List·Memᴰ·tail, List·Memᴰ·cases-cons, List·Memᴰ·not-nil, Memᴰ·cast, Memᴰ·of-map}
 use Rattle.theory.specs.Expression.{Expression, same}
-use Rattle.theory.specs.Distinct.{without, distinct, unless, NoRepeats, Within}
-use Rattle.theory.proofs.Distinct.{member?, without-append, without-absent, distinct-same, without-of}
-use Rattle.derive.specs.Walk.{if-yes, behind, beyond, first-of}
+use Rattle.theory.specs.Distinct.{without, distinct, unless, NoRepeats, Within, beyond}
+use Rattle.theory.proofs.Distinct.{member?, distinct-same, distinct-append, beyond-of}
+use Rattle.derive.specs.Walk.{if-yes, behind, first-of}
 
 -- ---- The first member
 
@@ -120,40 +120,28 @@ without-other x y ys n = go (same x y)
     go (yes p) = absurd (n p)
     go (no k) = refl
 
-pub beyond-nil : (xs : List Expression) → beyond xs [] ≡ []
-unfolding beyond without
-beyond-nil [] = refl
-beyond-nil (x ∷ xs) = ap (without same x) (beyond-nil xs)
-
-pub beyond-keep : (xs : List Expression) (y : Expression) (ys : List Expression) → (List·Memᴰ y xs → ⊥) → beyond xs (y ∷ ys) ≡ y ∷ beyond xs ys
+pub beyond-keep : (xs : List Expression) (y : Expression) (ys : List Expression) → (List·Memᴰ y xs → ⊥) → beyond same xs (y ∷ ys) ≡ y ∷ beyond same xs ys
 unfolding beyond
 beyond-keep [] y ys n = refl
 beyond-keep (x ∷ xs) y ys n =
-    ap (without same x) (beyond-keep xs y ys (λ m. n (List·Memᴰ·tail m))) ∙ without-other x y (beyond xs ys) (λ e. n (List·Memᴰ·head (sym e)))
+    ap (without same x) (beyond-keep xs y ys (λ m. n (List·Memᴰ·tail m))) ∙ without-other x y (beyond same xs ys) (λ e. n (List·Memᴰ·head (sym e)))
 
-pub beyond-pass : (xs : List Expression) (y : Expression) (ys : List Expression) → List·Memᴰ y xs → beyond xs (y ∷ ys) ≡ beyond xs ys
+pub beyond-pass : (xs : List Expression) (y : Expression) (ys : List Expression) → List·Memᴰ y xs → beyond same xs (y ∷ ys) ≡ beyond same xs ys
 unfolding beyond
 beyond-pass [] y ys m = absurd (List·Memᴰ·not-nil m)
 beyond-pass (x ∷ xs) y ys m = go (member? same y xs) (List·Memᴰ·cases-cons m) (λ k. beyond-pass xs y ys k)
   where
-    go : Dec (List·Memᴰ y xs) → (y ≡ x) ⊎ List·Memᴰ y xs → (List·Memᴰ y xs → beyond xs (y ∷ ys) ≡ beyond xs ys)
-        → without same x (beyond xs (y ∷ ys)) ≡ without same x (beyond xs ys)
+    go : Dec (List·Memᴰ y xs) → (y ≡ x) ⊎ List·Memᴰ y xs → (List·Memᴰ y xs → beyond same xs (y ∷ ys) ≡ beyond same xs ys)
+        → without same x (beyond same xs (y ∷ ys)) ≡ without same x (beyond same xs ys)
     go (yes k) c ih = ap (without same x) (ih k)
-    go (no n) (inl e) ih = ap (without same x) (beyond-keep xs y ys n) ∙ without-here x y (beyond xs ys) (sym e)
+    go (no n) (inl e) ih = ap (without same x) (beyond-keep xs y ys n) ∙ without-here x y (beyond same xs ys) (sym e)
     go (no n) (inr k) ih = absurd (n k)
 
-pub beyond-within : (xs ys : List Expression) → Within (beyond xs ys) ys
-unfolding beyond
-beyond-within [] ys z m = m
-beyond-within (x ∷ xs) ys z m = beyond-within xs ys z ((without-of same x (beyond xs ys) m) .0)
+pub beyond-within : (xs ys : List Expression) → Within (beyond same xs ys) ys
+beyond-within xs ys z m = (beyond-of same xs ys m) .0
 
-pub distinct-beyond : (xs ys : List Expression) → NoRepeats xs → NoRepeats ys → distinct same (xs ++ ys) ≡ xs ++ beyond xs ys
-unfolding distinct beyond
-distinct-beyond [] ys r s = distinct-same same ys s
-distinct-beyond (x ∷ xs) ys r s =
-    ap {B = List Expression} (λ l. x ∷ l)
-    (ap (without same x) (distinct-beyond xs ys (r .1) s) ∙ without-append same x xs (beyond xs ys)
-    ∙ ap (λ l. l ++ without same x (beyond xs ys)) (without-absent same x xs (r .0)))
+pub distinct-beyond : (xs ys : List Expression) → NoRepeats xs → NoRepeats ys → distinct same (xs ++ ys) ≡ xs ++ beyond same xs ys
+distinct-beyond xs ys r s = distinct-append same xs ys ∙ rw (distinct-same same xs r, distinct-same same ys s)
 
 behind-without : (p x : Expression) (ys : List Expression) → (p ≡ x → ⊥) → behind p (without same x ys) ≡ without same x (behind p ys)
 unfolding behind without
@@ -169,11 +157,11 @@ behind-without p x (y ∷ ys) n = go (same x y) (same p y) (behind-without p x y
     go (no e) (no k) ih =
         ap (behind p) (without-other x y ys e) ∙ behind-later p y (without same x ys) k ∙ ih ∙ sym (ap (without same x) (behind-later p y ys k))
 
-pub behind-beyond : (p : Expression) (xs ys : List Expression) → (List·Memᴰ p xs → ⊥) → behind p (beyond xs ys) ≡ beyond xs (behind p ys)
+pub behind-beyond : (p : Expression) (xs ys : List Expression) → (List·Memᴰ p xs → ⊥) → behind p (beyond same xs ys) ≡ beyond same xs (behind p ys)
 unfolding beyond
 behind-beyond p [] ys n = refl
 behind-beyond p (x ∷ xs) ys n =
-    behind-without p x (beyond xs ys) (λ e. n (List·Memᴰ·head e)) ∙ ap (without same x) (behind-beyond p xs ys (λ m. n (List·Memᴰ·tail m)))
+    behind-without p x (beyond same xs ys) (λ e. n (List·Memᴰ·head e)) ∙ ap (without same x) (behind-beyond p xs ys (λ m. n (List·Memᴰ·tail m)))
 
 pub map-no-repeats : (f : Expression → Expression) → ((x y : Expression) → f x ≡ f y → x ≡ y) → (xs : List Expression) → NoRepeats xs → NoRepeats (map f xs)
 map-no-repeats f tells [] r = tt

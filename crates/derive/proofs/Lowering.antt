@@ -6,8 +6,8 @@ use mathlib.Core.Bool.{Bool, true, false, cond, not, _&&_}
 use lib.Dec.{eqb}
 use borrow.Author.Tests.{eqb-true, eqb-false, eq-eqb, ne-eqb}
 use Rattle.theory.specs.Expression.{Expression, same, Sign, ε, binary}
-use Rattle.theory.specs.Table.{Table, Row, row, entry, tree-at, kind-of-sign, Sound, of-∅, of-ε, of-letter, of-sign, of-star}
-use Rattle.theory.proofs.KindOf.{sound-left, sound-right, tree-sign, tree-∅, tree-ε, tree-letter, tree-star}
+use Rattle.theory.specs.Table.{Table, Row, row, tree-at, kind-of-sign, Sound, of-∅, of-ε, of-letter, of-sign, of-star}
+use Rattle.theory.proofs.KindOf.{kind-is, sound-left, sound-right, tree-sign, tree-∅, tree-ε, tree-letter, tree-star}
 use Rattle.derive.specs.declared.sides.Lowered.{Lowered}
 use Rattle.derive.specs.declared.sides.Lowered.the-variants.{Member, Outside}
 use Rattle.derive.specs.Rows.{Rows}
@@ -32,20 +32,17 @@ sign-kind (suc (suc (suc (suc (suc (suc k)))))) l h = absurd (omega arith)
 
 -- ---- A row whose tree is a pair
 
-kind-at : {w : Row} {k l r : ℕ} → w ≡ entry k l r → w .kind ≡ k
-kind-at e = ap (λ (v : Row). v .kind) e
-
 -- A row whose tree has a sign at its root has that sign's kind.
 sign-row : {i : ℕ} (t : Table) (s : Sign) (x y : Expression) → tree-at t i ≡ binary s x y → Sound i (row t i) → (row t i) .kind ≡ kind-of-sign s
-sign-row {i} t s x y e (of-∅ w) = let z : _≡_ {A = ℕ} 0 1 = cc (tree-∅ t i (kind-at w)) in absurd (omega arith)
-sign-row {i} t s x y e (of-ε w) = let z : _≡_ {A = ℕ} 0 1 = cc (tree-ε t i (kind-at w)) in absurd (omega arith)
-sign-row {i} t s x y e (of-letter a low high w) = let z : _≡_ {A = ℕ} 0 1 = cc (tree-letter t i (kind-at w)) in absurd (omega arith)
+sign-row {i} t s x y e (of-∅ w) = let z : _≡_ {A = ℕ} 0 1 = cc (tree-∅ t i (kind-is w)) in absurd (omega arith)
+sign-row {i} t s x y e (of-ε w) = let z : _≡_ {A = ℕ} 0 1 = cc (tree-ε t i (kind-is w)) in absurd (omega arith)
+sign-row {i} t s x y e (of-letter a low high w) = let z : _≡_ {A = ℕ} 0 1 = cc (tree-letter t i (kind-is w)) in absurd (omega arith)
 sign-row {i} t s x y e (of-sign u l r hl hr w) =
-    let tr = tree-sign t i u (kind-at w) (subst (λ (v : Row). v .left < i) (sym w) hl) (subst (λ (v : Row). v .right < i) (sym w) hr) in
+    let tr = tree-sign t i u (kind-is w) (subst (λ (v : Row). v .left < i) (sym w) hl) (subst (λ (v : Row). v .right < i) (sym w) hr) in
     let same-sign : u ≡ s = cc tr in
-    kind-at w ∙ ap kind-of-sign same-sign
+    kind-is w ∙ ap kind-of-sign same-sign
 sign-row {i} t s x y e (of-star l hl w) =
-    let z : _≡_ {A = ℕ} 0 1 = cc (tree-star t i (kind-at w) (subst (λ (v : Row). v .left < i) (sym w) hl)) in
+    let z : _≡_ {A = ℕ} 0 1 = cc (tree-star t i (kind-is w) (subst (λ (v : Row). v .left < i) (sym w) hl)) in
     absurd (omega arith)
 
 -- The child of a row that stands for the member, and the one that stands for the other tree.
@@ -154,7 +151,7 @@ module _ (t : Table) (other kind : ℕ) (first : Bool) (p : ℕ) where
     module _ (k : p ≡ other → ⊥) {w : Row} (e : w ≡ row t p) where
       pub lowered-kind : (w .kind ≡ kind → ⊥) → Outside ≡ lowered t other kind first p
       unfolding lowered
-      lowered-kind q = sym (simp (ne-eqb other 0 d, ne-eqb p other k, ne-eqb ((row t p) .kind) kind (λ z. q (kind-at e ∙ z))))
+      lowered-kind q = sym (simp (ne-eqb other 0 d, ne-eqb p other k, ne-eqb ((row t p) .kind) kind (λ z. q (kind-is e ∙ z))))
 
       pub lowered-kept : w .kind ≡ kind → (b : Bool) → first ≡ b → {r : Lowered}
           → r ≡ choose (eqb (other-of b w) other && not (eqb (member-of b w) 0)) (Member (member-of b w)) Outside → r ≡ lowered t other kind first p
@@ -162,4 +159,4 @@ module _ (t : Table) (other kind : ℕ) (first : Bool) (p : ℕ) where
       lowered-kept q b f h =
           h
           ∙ ap₂ (λ (c : Bool) (v : Row). choose (eqb (other-of c v) other && not (eqb (member-of c v) 0)) (Member (member-of c v)) Outside) (sym f) e
-          ∙ sym (simp (ne-eqb other 0 d, ne-eqb p other k, eq-eqb ((row t p) .kind) kind (sym (kind-at e) ∙ q)))
+          ∙ sym (simp (ne-eqb other 0 d, ne-eqb p other k, eq-eqb ((row t p) .kind) kind (sym (kind-is e) ∙ q)))

@@ -6,7 +6,7 @@ use mathlib.Core.Option.{none, some}
 use mathlib.Core.Logic.{inl, ⊎-elim}
 use mathlib.Core.List.{List, [], _++_, List·Memᴰ, List·Memᴰ·not-nil, List·Memᴰ·eq-of-singleton}
 use Rattle.theory.specs.Expression.{Expression, same, ε}
-use Rattle.theory.specs.Distinct.{Within, distinct}
+use Rattle.theory.specs.Distinct.{Within, distinct, beyond}
 use Rattle.theory.specs.Derivative.{derivative}
 use Rattle.theory.specs.Table.{Table, Row, row, tree-at}
 use Rattle.derive.specs.declared.sides.Side.{Side}
@@ -16,7 +16,7 @@ use Rattle.derive.specs.declared.walk.Stepped.{Stepped}
 use Rattle.derive.specs.declared.walk.Stepped.the-variants.{Found, End, NoRoom}
 use Rattle.derive.specs.Rows.{Rows, Needed}
 use Rattle.derive.specs.Sides.{Within-row, side-list, left-side, right-side}
-use Rattle.derive.specs.Walk.{behind, beyond, first-of, to-come, In-list, Stands, Place-among, Outcome, Gives, Steps}
+use Rattle.derive.specs.Walk.{behind, first-of, to-come, In-list, Stands, Place-among, Outcome, Gives, Steps}
 use Rattle.derive.proofs.Growing.{grown-none, grown-trans}
 use Rattle.derive.proofs.Listing.{first-none, first-append, behind-first, behind-second, behind-beyond, behind-head, distinct-beyond}
 use Rattle.derive.proofs.Membership.{left-has, right-has, sides-have, letter-same, letter-other, weight, left-falls, left-stays, right-falls, right-stays}
@@ -24,17 +24,17 @@ use Rattle.derive.proofs.Needing.{short-more, needed-within, needed-lat
 use Rattle.derive.proofs.Siding.{derivative-sides, side-no-repeats}
 
 -- The list ms is xs and what ys has beyond it.
-module _ (t : Table) {ms : List Expression} (xs ys : List Expression) (e : ms ≡ xs ++ beyond xs ys) where
-  behind-left : (p : Place) → Stands t p xs → to-come t p ms ≡ to-come t p xs ++ beyond xs ys
+module _ (t : Table) {ms : List Expression} (xs ys : List Expression) (e : ms ≡ xs ++ beyond same xs ys) where
+  behind-left : (p : Place) → Stands t p xs → to-come t p ms ≡ to-come t p xs ++ beyond same xs ys
   behind-left Start m = e
-  behind-left (Behind p) m = ap (behind (tree-at t p)) e ∙ behind-first (tree-at t p) xs (beyond xs ys) m
+  behind-left (Behind p) m = ap (behind (tree-at t p)) e ∙ behind-first (tree-at t p) xs (beyond same xs ys) m
 
-  behind-right : (p : Place) → (Stands t p xs → ⊥) → to-come t p ms ≡ beyond xs (to-come t p ys)
+  behind-right : (p : Place) → (Stands t p xs → ⊥) → to-come t p ms ≡ beyond same xs (to-come t p ys)
   behind-right Start d = absurd (d tt)
   behind-right (Behind p) d =
-      ap (behind (tree-at t p)) e ∙ behind-second (tree-at t p) xs (beyond xs ys) d ∙ behind-beyond (tree-at t p) xs ys d
+      ap (behind (tree-at t p)) e ∙ behind-second (tree-at t p) xs (beyond same xs ys) d ∙ behind-beyond (tree-at t p) xs ys d
 
-module _ {t : Table} {n room : ℕ} {ms : List Expression} (xs ys : List Expression) (e : ms ≡ xs ++ beyond xs ys) (left-in : Within xs ms) (right-in : Within ys ms) where
+module _ {t : Table} {n room : ℕ} {ms : List Expression} (xs ys : List Expression) (e : ms ≡ xs ++ beyond same xs ys) (left-in : Within xs ms) (right-in : Within ys ms) where
   -- The left side's step found a member, or had no room.
   left-found : (p : Place) → Stands t p xs → (s : Stepped) → ((u : ℕ) → s ≡ End u → ⊥) → {t′ : Table} → Steps t n room xs p s t′ → Steps t n room ms p s t′
   left-found p m (Found i u) d g =
@@ -44,7 +44,7 @@ module _ {t : Table} {n room : ℕ} {ms : List Expression} (xs ys : List Express
           o .0,
           o .1,
           o .2,
-          ap first-of (behind-left t xs ys e p m) ∙ first-append (to-come t p xs) (beyond xs ys) (o .3),
+          ap first-of (behind-left t xs ys e p m) ∙ first-append (to-come t p xs) (beyond same xs ys) (o .3),
           λ z k. needed-within t n left-in z (o .4 z k),
         );
       }
@@ -53,19 +53,19 @@ module _ {t : Table} {n room : ℕ} {ms : List Expression} (xs ys : List Express
 
   -- The left side's step ended, and the walk goes on at the start of the right side.
   left-ended : (p : Place) → Stands t p xs → {s : Stepped} {u : ℕ} → s ≡ End u → {t′ : Table} → Steps t n room xs p s t′
-      → (r : Stepped) {t″ : Table} → Gives t′ u room ys (beyond xs ys) r t″ → Steps t n room ms p r t″
+      → (r : Stepped) {t″ : Table} → Gives t′ u room ys (beyond same xs ys) r t″ → Steps t n room ms p r t″
   left-ended p m {s} {u} q {t′} g r {t″} f = go r f
     where
       ended : Outcome t n room xs (to-come t p xs) (End u) t′
       ended = subst (λ v. Outcome t n room xs (to-come t p xs) v t′) q (g .outcome)
 
-      coming : to-come t p ms ≡ beyond xs ys
-      coming = behind-left t xs ys e p m ∙ ap (λ l. l ++ beyond xs ys) (first-none (to-come t p xs) (ended .2))
+      coming : to-come t p ms ≡ beyond same xs ys
+      coming = behind-left t xs ys e p m ∙ ap (λ l. l ++ beyond same xs ys) (first-none (to-come t p xs) (ended .2))
 
       later : (z : Expression) → Needed t′ u ys z → Needed t n ms z
       later z k = needed-later t n ms t′ u (λ y i. needed-within t n left-in y (ended .3 y i)) z (needed-within t′ u right-in z k)
 
-      go : (r : Stepped) → Gives t′ u room ys (beyond xs ys) r t″ → Steps t n room ms p r t″
+      go : (r : Stepped) → Gives t′ u room ys (beyond same xs ys) r t″ → Steps t n room ms p r t″
       go (Found i v) f =
           let o = f .outcome in
           record { outcome = (grown-trans (ended .0) (o .0), o .1, o .2, ap first-of coming ∙ o .3, λ z k. later z (o .4 z k)) }
@@ -75,7 +75,7 @@ module _ {t : Table} {n room : ℕ} {ms : List Expression} (xs ys : List Express
       go NoRoom f = record { outcome = short-more later (f .outcome) }
 
   -- The place is one of the right side's that the left side does not have.
-  right-goes : (p : Place) → (Stands t p xs → ⊥) → (r : Stepped) {t′ : Table} → Gives t n room ys (beyond xs (to-come t p ys)) r t′ → Steps t n room ms p r t′
+  right-goes : (p : Place) → (Stands t p xs → ⊥) → (r : Stepped) {t′ : Table} → Gives t n room ys (beyond same xs (to-come t p ys)) r t′ → Steps t n room ms p r t′
   right-goes p d (Found i u) f =
       let o = f .outcome in
       record { outcome = (o .0, o .1, o .2, ap first-of (behind-right t xs ys e p d) ∙ o .3, λ z k. needed-within t n right-in z (o .4 z k)) }
@@ -117,7 +117,7 @@ module _ {t : Table} {n i : ℕ} {x y : Side} (k : Two-sides t n i x y) where
     abbrev B : List Expression
     B = side-list a t y
 
-    two-sides : whole ≡ A ++ beyond A B
+    two-sides : whole ≡ A ++ beyond same A B
     two-sides =
         derivative-sides (k .rows) a (k .within) (k .no-letter)
         ∙ ap₂ (λ b c. distinct same (side-list a t b ++ side-list a t c)) (sym (k .left)) (sym (k .right))
@@ -156,7 +156,7 @@ module _ {t : Table} {n i : ℕ} {x y : Side} (k : Two-sides t n i x y) where
       pub step-left : Stands t place A → (s : Stepped) → ((u : ℕ) → s ≡ End u → ⊥) → {t′ : Table} → Steps t n room A place s t′ → Steps t n room whole place s t′
       step-left = left-found A B two-sides left-in right-in place
 
-      pub step-right : (Stands t place A → ⊥) → (r : Stepped) {t′ : Table} → Gives t n room B (beyond A (to-come t place B)) r t′ → Steps t n room whole place r t′
+      pub step-right : (Stands t place A → ⊥) → (r : Stepped) {t′ : Table} → Gives t n room B (beyond same A (to-come t place B)) r t′ → Steps t n room whole place r t′
       step-right = right-goes A B two-sides left-in right-in place
 
       -- The left side's list has ended, in the table t′ with u rows.
@@ -176,12 +176,12 @@ module _ {t : Table} {n i : ℕ} {x y : Side} (k : Two-sides t n i x y) where
         pub ended-right : Within-row u u y
         ended-right = grown-side (ended .0) y right-within
 
-        pub step-on : Stands t place A → (r : Stepped) {t″ : Table} → Gives t′ u room (side-list a t′ y) (beyond (side-list a t′ x) (side-list a t′ y)) r t″
+        pub step-on : Stands t place A → (r : Stepped) {t″ : Table} → Gives t′ u room (side-list a t′ y) (beyond same (side-list a t′ x) (side-list a t′ y)) r t″
             → Steps t n room whole place r t″
         step-on m r {t″} f =
             left-ended A B two-sides left-in right-in place m o g r
-            (subst (λ b. Gives t′ u room b (beyond A b) r t″) (grown-list (ended .0) a y right-within)
-            (subst (λ b. Gives t′ u room (side-list a t′ y) (beyond b (side-list a t′ y)) r t″) (grown-list (ended .0) a x left-within) f))
+            (subst (λ b. Gives t′ u room b (beyond same A b) r t″) (grown-list (ended .0) a y right-within)
+            (subst (λ b. Gives t′ u room (side-list a t′ y) (beyond same b (side-list a t′ y)) r t″) (grown-list (ended .0) a x left-within) f))
 
 -- ---- A letter's row
 

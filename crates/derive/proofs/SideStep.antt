@@ -10,6 +10,7 @@ use mathlib.Core.List.{List, [], _∷_, map, List·Memᴰ, List·Memᴰ·cases-c
 use Rattle.theory.specs.Expression.{Expression}
 use Rattle.theory.specs.Derivative.{derivative}
 use Rattle.theory.specs.Table.{Table, trees, tree-at}
+use Rattle.theory.proofs.Bounds.Parts.{part-whole}
 use Rattle.theory.proofs.Trees.{trees-length}
 use Rattle.derive.specs.declared.rows.Interned.{Interned}
 use Rattle.derive.specs.declared.rows.Interned.the-variants.{At, Full}
@@ -25,7 +26,7 @@ use Rattle.derive.specs.Rows.{Rows, Needed, Interns}
 use Rattle.derive.specs.Sides.{Within-row, side-sign, beside, side-list, lowered}
 use Rattle.derive.specs.Walk.{behind, first-of, to-come, In-list, behind-lowered, lowered-place, Outcome, Gives, Steps}
 use Rattle.derive.proofs.Growing.{grown-none, grown-trans, grown-tree}
-use Rattle.derive.proofs.Joining.{beside-tells, whole-part}
+use Rattle.derive.proofs.Joining.{beside-tells}
 use Rattle.derive.proofs.Lifting.{Lifts}
 use Rattle.derive.proofs.Listing.{first-none, first-member, first-map, behind-map, behind-within}
 use Rattle.derive.proofs.Lowering.{Lowers, lowers}
@@ -128,7 +129,7 @@ module _ {t : Table} {n a : ℕ} {side : Side} {child other kind : ℕ} {first :
       lifted-needed = inr (
         lifted,
         to-come-within t n place (side-list a t side) (first-member (to-come t place (side-list a t side)) lifted-first),
-        whole-part lifted,
+        part-whole lifted,
       )
 
       rows-needed : (z : Expression) → List·Memᴰ z (lifted ∷ trees t₁ u) → Needed t n (side-list a t side) z

@@ -1,45 +1,23 @@
 -- Taking a tree over with all its parts: one row joined to what its children brought. Assumes nothing.
-use Prim.Native.Nat.{ℕ, zero, suc, _+_, _≤_, _<_}
-use native.Mathlib.Nat.{le-refl, le-trans, lt-of-lt-of-le, le-of-eq}
+use Prim.Native.Nat.{ℕ, zero, suc, _≤_, _<_}
+use native.Mathlib.Nat.{le-refl, lt-of-lt-of-le}
 use native.Mathlib.Decide.{ℕ-discrete}
 use native.Mathlib.Omega.{arith}
 use mathlib.Core.Path.{_≡_, refl, sym, ap, ap₂, _∙_, subst}
 use mathlib.Core.Logic.{_⊎_, inl, inr, ⊎-elim}
-use mathlib.Core.List.{List, [], _∷_, _++_, List·Memᴰ, List·Memᴰ·head, List·Memᴰ·cases-cons, Memᴰ·cast, Memᴰ·append-left, Memᴰ·append-right}
-use lib.ListN.{length, getD}
-use Rattle.theory.specs.Expression.{Expression, Sign, ∅, ε, letter, binary, star, union, concatenation, shuffle, parts}
+use mathlib.Core.List.{List, _∷_, List·Memᴰ, List·Memᴰ·cases-cons, Memᴰ·cast}
+use Rattle.theory.specs.Expression.{Expression, Sign, binary, star, union, concatenation, shuffle, parts}
 use Rattle.theory.specs.Distinct.{Within}
 use Rattle.theory.specs.Table.{Table, Row, row, entry, Sound, of-∅, of-ε, of-letter, of-sign, of-star, trees, tree-at, row-tree, kind-of-sign}
 use Rattle.theory.proofs.KindOf.{sign-kinds, sound-kind, sound-left, sound-right, tree-sign, tree-star}
 use Rattle.theory.proofs.Trees.{trees-length, trees-below}
+use Rattle.theory.proofs.Bounds.Parts.{part-whole, part-left, part-right, part-inner}
 use Rattle.theory.proofs.Sound.{sign-tree, star-tree, row-tree-cong}
 use Rattle.derive.specs.Rows.{Rows, Grown, Short, Interns, Takes, SoundTo}
 use Rattle.derive.specs.declared.rows.Interned.{Interned}
 use Rattle.derive.specs.declared.rows.Interned.the-variants.{At, Full}
 use Rattle.derive.proofs.Answering.{sound-read, kind-read}
-use Rattle.derive.proofs.Growing.{grown-none, grown-trans, grown-tree, grown-within}
-
--- ---- Parts
-
-pub parts-self : (e : Expression) → List·Memᴰ e (parts e)
-unfolding parts
-parts-self ∅ = List·Memᴰ·head refl
-parts-self ε = List·Memᴰ·head refl
-parts-self (letter a) = List·Memᴰ·head refl
-parts-self (binary s x y) = Memᴰ·append-right (parts x ++ parts y) (List·Memᴰ·head refl)
-parts-self (star x) = Memᴰ·append-right (parts x) (List·Memᴰ·head refl)
-
-pub parts-left : (s : Sign) (x y : Expression) → Within (parts x) (parts (binary s x y))
-unfolding parts
-parts-left s x y z m = Memᴰ·append-left _ (Memᴰ·append-left (parts y) m)
-
-pub parts-right : (s : Sign) (x y : Expression) → Within (parts y) (parts (binary s x y))
-unfolding parts
-parts-right s x y z m = Memᴰ·append-left _ (Memᴰ·append-right (parts x) m)
-
-pub parts-star : (x : Expression) → Within (parts x) (parts (star x))
-unfolding parts
-parts-star x z m = Memᴰ·append-left _ m
+use Rattle.derive.proofs.Growing.{grown-none, grown-trans, grown-tree}
 
 -- ---- Too little room
 
@@ -73,14 +51,14 @@ takes-join room e b (At i n″) t″ h = (
   h .1,
   h .2,
   h .3,
-  λ z m. ⊎-elim (λ q. inr (Memᴰ·cast q (parts-self e))) (b .each z) (List·Memᴰ·cases-cons (h .4 z m)),
+  λ z m. ⊎-elim (λ q. inr (Memᴰ·cast q (part-whole e))) (b .each z) (List·Memᴰ·cases-cons (h .4 z m)),
 )
 takes-join {t′ = t′} {n′ = n′} room e b Full t″ h =
     record {
       all = e ∷ trees t′ n′;
       once = (h .1, b .grown .rows .once);
       over = (let l = trees-length t′ n′ in let q = h .0 in omega arith);
-      each = λ z m. ⊎-elim (λ q. inr (Memᴰ·cast q (parts-self e))) (b .each z) (List·Memᴰ·cases-cons m);
+      each = λ z m. ⊎-elim (λ q. inr (Memᴰ·cast q (part-whole e))) (b .each z) (List·Memᴰ·cases-cons m);
     }
 
 -- A child has no room.
@@ -166,15 +144,15 @@ module _ {g : Table} {i : ℕ} {w : Row} (s : SoundTo g i) (e : w ≡ row g i) w
   parts-of-left h = go (ℕ-discrete (w .kind) 6)
     where
       go : Dec (w .kind ≡ 6) → Within (parts (tree-at g (w .left))) (parts (tree-at g i))
-      go (yes q) = subst (λ x. Within (parts (tree-at g (w .left))) (parts x)) (sym (starred q)) (parts-star (tree-at g (w .left)))
+      go (yes q) = subst (λ x. Within (parts (tree-at g (w .left))) (parts x)) (sym (starred q)) (part-inner (tree-at g (w .left)))
       go (no n) =
           let u = signed h n in
-          subst (λ x. Within (parts (tree-at g (w .left))) (parts x)) (sym (u .2)) (parts-left (u .0) (tree-at g (w .left)) (tree-at g (w .right)))
+          subst (λ x. Within (parts (tree-at g (w .left))) (parts x)) (sym (u .2)) (part-left (u .0) (tree-at g (w .left)) (tree-at g (w .right)))
 
   pub parts-of-right : 3 ≤ w .kind → (w .kind ≡ 6 → ⊥) → Within (parts (tree-at g (w .right))) (parts (tree-at g i))
   parts-of-right h n =
       let u = signed h n in
-      subst (λ x. Within (parts (tree-at g (w .right))) (parts x)) (sym (u .2)) (parts-right (u .0) (tree-at g (w .left)) (tree-at g (w .right)))
+      subst (λ x. Within (parts (tree-at g (w .right))) (parts x)) (sym (u .2)) (part-right (u .0) (tree-at g (w .left)) (tree-at g (w .right)))
 
   pub star-joined : {t t′ : Table} {n room x u : ℕ} → w .kind ≡ 6 → Took t n room (tree-at g (w .left)) x u t′
       → row-tree (entry (w .kind) x 0) (trees t′ u) ≡ tree-at g i

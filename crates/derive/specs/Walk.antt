@@ -6,7 +6,7 @@ use mathlib.Core.Option.{Option, none, some}
 use mathlib.Core.List.{List, [], _∷_, List·Memᴰ}
 use lib.ListN.{length}
 use Rattle.theory.specs.Expression.{Expression, same}
-use Rattle.theory.specs.Distinct.{without}
+use Rattle.theory.specs.Distinct.{beyond}
 use Rattle.theory.specs.Derivative.{derivative}
 use Rattle.theory.specs.Table.{Table, trees, tree-at}
 use Rattle.derive.specs.declared.sides.Side.{Side}
@@ -28,12 +28,6 @@ if-yes (no n) x y = y
 unfoldable pub behind : Expression → List Expression → List Expression
 behind p [] = []
 behind p (x ∷ xs) = let r = behind p xs in if-yes (same p x) xs r
-
--- ys with each member of xs taken out
-unfoldable pub beyond : List Expression → List Expression → List Expression
-unfolding without
-beyond [] ys = ys
-beyond (x ∷ xs) ys = without same x (beyond xs ys)
 
 abbrev pub first-of : List Expression → Option Expression
 first-of [] = none
@@ -123,4 +117,4 @@ abbrev pub Side-steps : Table → ℕ → ℕ → ℕ → Side → Place → Ste
 Side-steps t n room a side p = Steps t n room (side-list a t side) p
 
 abbrev pub Fresh-steps : Table → ℕ → ℕ → ℕ → Side → Side → Place → Stepped → Table → Type 0
-Fresh-steps t n room a x y p = Gives t n room (side-list a t y) (beyond (side-list a t x) (to-come t p (side-list a t y)))
+Fresh-steps t n room a x y p = Gives t n room (side-list a t y) (beyond same (side-list a t x) (to-come t p (side-list a t y)))

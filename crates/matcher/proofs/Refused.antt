@@ -2,7 +2,7 @@
 use Prim.Native.Nat.{ℕ, _≤_, _<_}
 use native.Mathlib.Omega.{arith}
 use mathlib.Core.Path.{_≡_, refl, sym, ap, ap₂, _∙_}
-use mathlib.Core.Bool.{Bool, true, false, cond, not, _&&_, _||_, and-assoc, false≢true}
+use mathlib.Core.Bool.{Bool, true, false, cond, not, _&&_, _||_, and-assoc}
 use mathlib.Core.List.{List}
 use lib.ListN.{length, getD}
 use lib.Dec.{eqb, leb, ltb}
@@ -10,6 +10,7 @@ use borrow.Author.Tests.{ltb-true, ltb-false, leb-true, eqb-true, eqb-false, not
 use Rattle.theory.specs.Refusal.{Refusal, refusal, success, columns-differ, automaton-malformed, work-short}
 use Rattle.theory.specs.Record.{Handed, words, states-fit, arcs-fit, accepting-fits, ends-fit, well-formed, matcher-refusal}
 use Rattle.theory.proofs.Below.{all-at}
+use Rattle.theory.proofs.Tests.{and-left, and-right, or-left, or-right}
 use Rattle.matcher.proofs.Walk.{Sound}
 
 -- ---- The four tests
@@ -56,22 +57,6 @@ numbered h current next {equal} {counts} {inside} {few} e c v s =
     go false y z = refl
 
 -- ---- What a test that is passed tells
-
-and-left : (a b : Bool) → (a && b) ≡ true → a ≡ true
-and-left true b e = refl
-and-left false b e = e
-
-and-right : (a b : Bool) → (a && b) ≡ true → b ≡ true
-and-right true b e = e
-and-right false b e = absurd (false≢true e)
-
-or-left : (a b : Bool) → (a || b) ≡ false → a ≡ false
-or-left true b e = e
-or-left false b e = refl
-
-or-right : (a b : Bool) → (a || b) ≡ false → b ≡ false
-or-right true b e = absurd (false≢true (sym e))
-or-right false b e = e
 
 pub record Alike (h : Handed) : Type 0 where
   pub letter-same : length (h .letter) ≡ length (h .from)

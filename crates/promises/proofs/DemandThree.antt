@@ -9,13 +9,12 @@ use lib.ListN.{length}
 use lib.Dec.{eqb}
 use Rattle.theory.specs.Refusal.{success}
 use Rattle.theory.specs.Expression.{entries, letters}
-use Rattle.theory.specs.Table.{Table, row, size, tree, table-refusal}
+use Rattle.theory.specs.Table.{Table, row, size, tree, table-refusal, WellFormed}
 use Rattle.theory.specs.Automaton.{states, expressions, arcs}
-use Rattle.theory.specs.Build.{Lent, Counts, Built}
+use Rattle.theory.specs.Build.{Lent, Counts, Built, EvenLent, OverRoom, of-expressions, of-states, of-arcs}
 use Rattle.theory.specs.Record.{count-below}
-use Rattle.theory.proofs.WellFormed.{WellFormed, well-formed, tree-entries, tree-letters}
+use Rattle.theory.proofs.WellFormed.{well-formed, tree-entries, tree-letters}
 use Rattle.theory.proofs.Bounds.{states-bound, expressions-bound, arcs-bound}
-use Rattle.theory.proofs.Room.{EvenLent, OverRoom, of-expressions, of-states, of-arcs}
 use Rattle.promises.specs.Builder.{none}
 use Rattle.promises.proofs.Causes.Builder.{builder-due, builder-answers}
 

@@ -11,13 +11,11 @@ use Rattle.theory.specs.Distinct.{NoRepeats}
 use Rattle.theory.specs.Automaton.{states, arcs, expressions, Derived}
 use Rattle.theory.specs.Refusal.{success}
 use Rattle.theory.specs.Language.{Word, In}
-use Rattle.theory.specs.Table.{Table, tree}
-use Rattle.theory.specs.Build.{Lent, Counts, Built}
+use Rattle.theory.specs.Table.{Table, tree, WellFormed}
+use Rattle.theory.specs.Build.{Lent, Counts, Built, EvenLent, OverRoom}
 use Rattle.theory.specs.Record.{words}
 use Rattle.theory.specs.Judge.{Judgement, Judged}
 use Rattle.theory.proofs.Needs.{states-different, arcs-different, expressions-different}
-use Rattle.theory.proofs.WellFormed.{WellFormed}
-use Rattle.theory.proofs.Room.{EvenLent, OverRoom}
 use Rattle.promises.specs.Matcher.{after-build}
 use Rattle.promises.proofs.Handing.{accepted-exactly, refused-exactly}
 

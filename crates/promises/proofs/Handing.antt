@@ -9,15 +9,14 @@ use lib.ListN.{length, length-map}
 use Rattle.theory.specs.Refusal.{Refusal, success}
 use Rattle.theory.specs.Column.{filled}
 use Rattle.theory.specs.Language.{Word, In}
-use Rattle.theory.specs.Table.{Table, tree}
+use Rattle.theory.specs.Table.{Table, tree, WellFormed}
 use Rattle.theory.specs.Automaton.{Arc, states, expressions, arcs}
-use Rattle.theory.specs.Build.{Lent, Counts, Built, build-refusal, state-room, arc-room}
+use Rattle.theory.specs.Build.{Lent, Counts, Built, build-refusal, state-room, arc-room, EvenLent, OverRoom, of-states, of-arcs}
 use Rattle.theory.specs.Record.{Handed, handed, Verdict, accepted, unfinished, wrong, verdict, live, matcher-refusal, words}
 use Rattle.theory.specs.Judge.{Judgement, Judged, judgement, given}
-use Rattle.theory.proofs.WellFormed.{WellFormed, tree-lettered}
+use Rattle.theory.proofs.WellFormed.{tree-lettered}
 use Rattle.theory.proofs.Answers.{counts-built, judgement-given}
 use Rattle.theory.proofs.Filled.{filled-length, filled-up, filled-well-formed, filled-language}
-use Rattle.theory.proofs.Room.{EvenLent, OverRoom, of-states, of-arcs}
 use Rattle.promises.specs.Builder.{BuilderCause, differ, table, room, none}
 use Rattle.promises.specs.Matcher as Matching
 use Rattle.promises.specs.Matcher.{after-build}
@@ -60,6 +59,10 @@ module _ {g : Table} {c : Lent} {answer : Counts} {c′ : Lent} (h : Built g c a
 
   answered : answer ≡ record { refusal = success; states = length (states (tree g)); expressions = length (expressions (tree g)); arcs = length (arcs (tree g)) }
   answered = h .answers ∙ counts-built g c clear
+
+  -- The counts are within what was lent.
+  pub counts-within : (answer .states ≤ state-room c) × (answer .arcs ≤ arc-room c)
+  counts-within = rw answered room-enough
 
   -- What is handed over is the automaton of the tree, with zeros behind it.
   abbrev left : Handed

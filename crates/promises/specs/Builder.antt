@@ -1,16 +1,11 @@
 -- Demand 1 at `builder::build`: the cause of each refusal, in the order of 01's table, and what a call is held to.
-use Prim.Native.Nat.{_≤_, _<_}
+use Prim.Native.Nat.{_≤_}
 use mathlib.Core.Path.{_≡_}
 use mathlib.Core.Logic.{_↔_}
-use lib.ListN.{length}
-use Rattle.theory.specs.Expression.{Expression}
 use Rattle.theory.specs.Refusal.{Refusal, refusal, success, columns-differ, room-small}
-use Rattle.theory.specs.Table.{Table, tree}
+use Rattle.theory.specs.Table.{Table, tree, WellFormed}
 use Rattle.theory.specs.Automaton.{states, arcs, expressions}
-use Rattle.theory.specs.Build.{Lent, Counts, Cleared, expression-room, state-room, arc-room}
-use Rattle.theory.proofs.TableRefusal.{SameLengths}
-use Rattle.theory.proofs.WellFormed.{WellFormed}
-use Rattle.theory.proofs.Room.{EvenLent, OverRoom}
+use Rattle.theory.specs.Build.{Lent, Counts, Cleared, EvenLent, OverRoom}
 use Rattle.promises.specs.Table.{TableCause}
 
 -- `BuilderCause g c r`: there is cause for the refusal r.

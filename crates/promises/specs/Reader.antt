@@ -6,10 +6,9 @@ use lib.ListN.{length, take}
 use Rattle.theory.specs.Expression.{Expression, entries}
 use Rattle.theory.specs.Refusal.{Refusal, refusal, success, columns-differ, text-long, not-grammar, too-deep, too-many-entries}
 use Rattle.theory.specs.Column.{zeros}
-use Rattle.theory.specs.Table.{Table, table, size}
+use Rattle.theory.specs.Table.{Table, table, size, SameLengths}
 use Rattle.theory.specs.Grammar.{Text, written, Writable, Whole, Viable, depth, made, Passed}
 use Rattle.theory.specs.Read.{Entered}
-use Rattle.theory.proofs.TableRefusal.{SameLengths}
 
 -- 01, refusal 15: "the smaller of 512 and the column length".
 abbrev pub entry-room : Table → ℕ

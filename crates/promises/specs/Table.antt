@@ -4,9 +4,7 @@ use mathlib.Core.Path.{_≡_}
 use mathlib.Core.Bool.{true}
 use mathlib.Core.List.{List·Memᴰ}
 use Rattle.theory.specs.Refusal.{Refusal, refusal, success, columns-differ, table-empty, table-long, kind-unknown, field-outside, child-not-smaller, empty-language-inside, not-named-once}
-use Rattle.theory.specs.Table.{Table, Row, row, size, meaning, fields-fit, row-children, times, named}
-use Rattle.theory.proofs.TableRefusal.{SameLengths}
-use Rattle.theory.proofs.WellFormed.{Faultless, WellFormed}
+use Rattle.theory.specs.Table.{Table, Row, row, size, meaning, fields-fit, row-children, times, named, SameLengths, Faultless, WellFormed}
 
 -- The fields of a row that hold no child are as 01's table of kinds has them, or they are not.
 abbrev pub FieldsFit : Row → Type 0

@@ -9,7 +9,8 @@ use lib.Dec.{T}
 use Rattle.theory.specs.Expression.{Expression, ε, letter, entries}
 use Rattle.theory.specs.Grammar.{byte-open, byte-0, byte-1, is-letter, makes-entry}
 use Rattle.theory.specs.Scan.{Token, opening, closing, starring, zero, unit, other, signing, naming, token, Frame, before, behind, next}
-use Rattle.theory.proofs.Grammar.Bytes.{Made-of, token-made-of, letter-not, token-letter}
+use Rattle.theory.proofs.Grammar.Bytes.{Made-of, token-made-of, token-letter}
+use Rattle.theory.proofs.Grammar.Count.{letter-makes}
 use Rattle.reader.specs.Found.{leaf-of}
 
 pub leaf-next : (fs : List Frame) (k : Token) (e : Expression) → leaf-of k ≡ some e → next (before fs) k ≡ some (behind e fs)
@@ -43,9 +44,6 @@ pub leaf-makes : (b : ℕ) (e : Expression) → leaf-of (token b) ≡ some e →
 unfolding leaf-of makes-entry
 leaf-makes b e h = go (token b) (token-made-of b) h
   where
-    letter-makes : (a : ℕ) → T (is-letter a) → makes-entry a ≡ true
-    letter-makes a i = let no = letter-not a i in rw (no 40 tt, no 43 tt, no 46 tt, no 38 tt)
-
     go : (k : Token) → Made-of k b → leaf-of k ≡ some e → makes-entry b ≡ true
     go opening m h = cc
     go closing m h = cc

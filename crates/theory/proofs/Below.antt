@@ -1,21 +1,13 @@
 -- Laws of the tests and counts over the numbers below n. Assumes nothing.
 use Prim.Native.Nat.{ℕ, zero, suc, _+_, _≤_, _<_}
-use native.Mathlib.Nat.{le-refl, le-of-suc-le-suc, not-suc-le-zero, add-suc, add-zero, zero-add, suc-add, add-assoc, eq-or-lt-of-le, le-step}
+use native.Mathlib.Nat.{le-refl, le-of-suc-le-suc, not-suc-le-zero, add-suc, add-zero, eq-or-lt-of-le, le-step}
 use native.Mathlib.Decide.{le-ind}
 use native.Mathlib.Numerals.{add-one}
 use native.Mathlib.Omega.{arith}
 use mathlib.Core.Path.{_≡_, refl, sym, ap, ap₂, _∙_, subst}
-use mathlib.Core.Logic.{_⊎_, inl, inr, ⊎-elim}
-use mathlib.Core.Bool.{Bool, true, false, cond, _||_, _&&_, false≢true}
+use mathlib.Core.Logic.{_⊎_, inl, inr}
+use mathlib.Core.Bool.{Bool, true, false, cond, _||_, _&&_, or-assoc, or-false, false≢true}
 use Rattle.theory.specs.Record.{some-below, all-below, count-below}
-
-or-assoc : (a b c : Bool) → ((a || b) || c) ≡ (a || (b || c))
-or-assoc true b c = refl
-or-assoc false b c = refl
-
-or-false : (a : Bool) → (a || false) ≡ a
-or-false true = refl
-or-false false = refl
 
 -- ---- Only the numbers below n count
 

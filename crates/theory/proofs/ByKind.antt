@@ -5,7 +5,7 @@ use mathlib.Core.Path.{_≡_, refl, ap}
 use mathlib.Core.Bool.{Bool, true, _&&_, and-true}
 use mathlib.Core.List.{[], _∷_}
 use lib.Dec.{eqb, leb, ltb}
-use Rattle.theory.specs.Table.{meaning, fields-fit, children, all-below}
+use Rattle.theory.specs.Table.{Row, meaning, fields-fit, children, row-children, all-below}
 
 -- ---- The fields that hold no child
 
@@ -36,37 +36,47 @@ fits-other (suc (suc (suc (suc (suc (suc (suc k))))))) l r h n m = refl
 
 -- ---- The children
 
-pub children-leaf : (k l r : ℕ) → k < 3 → children (meaning k) l r ≡ []
-unfolding meaning children
-children-leaf zero l r h = refl
-children-leaf (suc zero) l r h = refl
-children-leaf (suc (suc zero)) l r h = refl
-children-leaf (suc (suc (suc k))) l r h = absurd (omega arith)
+module _ (w : Row) where
+  pub children-leaf : w .kind < 3 → row-children w ≡ []
+  unfolding row-children meaning children
+  children-leaf h = go (w .kind) h
+    where
+      go : (k : ℕ) → k < 3 → children (meaning k) (w .left) (w .right) ≡ []
+      go zero h = refl
+      go (suc zero) h = refl
+      go (suc (suc zero)) h = refl
+      go (suc (suc (suc k))) h = absurd (omega arith)
 
-pub children-sign : (k l r : ℕ) → 3 ≤ k → k ≤ 5 → children (meaning k) l r ≡ l ∷ r ∷ []
-unfolding meaning children
-children-sign zero l r h m = absurd (omega arith)
-children-sign (suc zero) l r h m = absurd (omega arith)
-children-sign (suc (suc zero)) l r h m = absurd (omega arith)
-children-sign (suc (suc (suc zero))) l r h m = refl
-children-sign (suc (suc (suc (suc zero)))) l r h m = refl
-children-sign (suc (suc (suc (suc (suc zero))))) l r h m = refl
-children-sign (suc (suc (suc (suc (suc (suc k)))))) l r h m = absurd (omega arith)
+  pub children-sign : 3 ≤ w .kind → w .kind ≤ 5 → row-children w ≡ w .left ∷ w .right ∷ []
+  unfolding row-children meaning children
+  children-sign h m = go (w .kind) h m
+    where
+      go : (k : ℕ) → 3 ≤ k → k ≤ 5 → children (meaning k) (w .left) (w .right) ≡ w .left ∷ w .right ∷ []
+      go zero h m = absurd (omega arith)
+      go (suc zero) h m = absurd (omega arith)
+      go (suc (suc zero)) h m = absurd (omega arith)
+      go (suc (suc (suc zero))) h m = refl
+      go (suc (suc (suc (suc zero)))) h m = refl
+      go (suc (suc (suc (suc (suc zero))))) h m = refl
+      go (suc (suc (suc (suc (suc (suc k)))))) h m = absurd (omega arith)
 
-pub children-star : (k l r : ℕ) → k ≡ 6 → children (meaning k) l r ≡ l ∷ []
-unfolding meaning children
-children-star k l r e = rw e
+  pub children-star : w .kind ≡ 6 → row-children w ≡ w .left ∷ []
+  unfolding row-children meaning children
+  children-star e = rw e
 
-pub children-unknown : (k l r : ℕ) → 6 < k → children (meaning k) l r ≡ []
-unfolding meaning children
-children-unknown zero l r h = absurd (omega arith)
-children-unknown (suc zero) l r h = absurd (omega arith)
-children-unknown (suc (suc zero)) l r h = absurd (omega arith)
-children-unknown (suc (suc (suc zero))) l r h = absurd (omega arith)
-children-unknown (suc (suc (suc (suc zero)))) l r h = absurd (omega arith)
-children-unknown (suc (suc (suc (suc (suc zero))))) l r h = absurd (omega arith)
-children-unknown (suc (suc (suc (suc (suc (suc zero)))))) l r h = absurd (omega arith)
-children-unknown (suc (suc (suc (suc (suc (suc (suc k))))))) l r h = refl
+  pub children-unknown : 6 < w .kind → row-children w ≡ []
+  unfolding row-children meaning children
+  children-unknown h = go (w .kind) h
+    where
+      go : (k : ℕ) → 6 < k → children (meaning k) (w .left) (w .right) ≡ []
+      go zero h = absurd (omega arith)
+      go (suc zero) h = absurd (omega arith)
+      go (suc (suc zero)) h = absurd (omega arith)
+      go (suc (suc (suc zero))) h = absurd (omega arith)
+      go (suc (suc (suc (suc zero)))) h = absurd (omega arith)
+      go (suc (suc (suc (suc (suc zero))))) h = absurd (omega arith)
+      go (suc (suc (suc (suc (suc (suc zero)))))) h = absurd (omega arith)
+      go (suc (suc (suc (suc (suc (suc (suc k))))))) h = refl
 
 -- ---- Children smaller than their parent
 

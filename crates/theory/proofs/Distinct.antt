@@ -3,11 +3,11 @@
 use Prim.Native.Nat.{ℕ, zero, suc, _≤_, _<_, zero-le, suc-le-suc}
 use native.Mathlib.Nat.{le-trans, le-refl, le-of-suc-le-suc, not-suc-le-zero}
 use native.Mathlib.Omega.{arith}
-use mathlib.Core.Path.{_≡_, refl, sym, ap, _∙_, subst}
+use mathlib.Core.Path.{_≡_, refl, sym, ap, _∙_}
 use mathlib.Core.Logic.{_⊎_, inl, inr, ⊎-elim}
-use mathlib.Core.List.{List, [], _∷_, _++_, map, List·Memᴰ, List·Memᴰ·head, List·Memᴰ·tail, List·Memᴰ·cases-cons, List·Memᴰ·not-nil, Memᴰ·cast, append-nil}
+use mathlib.Core.List.{List, [], _∷_, _++_, List·Memᴰ, List·Memᴰ·head, List·Memᴰ·tail, List·Memᴰ·cases-cons, List·Memᴰ·not-nil, Memᴰ·cast, append-nil}
 use lib.ListN.{length, getD}
-use Rattle.theory.specs.Distinct.{unless, here-or, without, distinct, place, NoRepeats, Within}
+use Rattle.theory.specs.Distinct.{unless, here-or, without, distinct, beyond, place, NoRepeats, Within}
 
 pub getD-member : {A : Type 0} (ys : List A) (i : ℕ) (d : A) → i < length ys → List·Memᴰ (getD ys i d) ys
 getD-member [] i d h = absurd (not-suc-le-zero h)
@@ -113,42 +113,37 @@ module _ {A : Type 0} (same : Discrete A) where
 
   -- ---- A list that goes on
 
-  -- ys with each member of xs taken out
-  pub beyond : List A → List A → List A
-  beyond [] ys = ys
-  beyond (x ∷ xs) ys = without same x (beyond xs ys)
-
   -- `distinct` of a longer list begins with `distinct` of the shorter: what is numbered keeps its number.
-  pub distinct-append : (xs ys : List A) → distinct same (xs ++ ys) ≡ distinct same xs ++ beyond xs (distinct same ys)
+  pub distinct-append : (xs ys : List A) → distinct same (xs ++ ys) ≡ distinct same xs ++ beyond same xs (distinct same ys)
   unfolding distinct beyond
   distinct-append [] ys = refl
   distinct-append (x ∷ xs) ys =
       ap {B = List A} (λ t. x ∷ t)
-      (ap (λ t. without same x t) (distinct-append xs ys) ∙ without-append x (distinct same xs) (beyond xs (distinct same ys)))
+      (ap (λ t. without same x t) (distinct-append xs ys) ∙ without-append x (distinct same xs) (beyond same xs (distinct same ys)))
 
-  pub beyond-of : (xs ys : List A) {z : A} → List·Memᴰ z (beyond xs ys) → List·Memᴰ z ys × (List·Memᴰ z xs → ⊥)
+  pub beyond-of : (xs ys : List A) {z : A} → List·Memᴰ z (beyond same xs ys) → List·Memᴰ z ys × (List·Memᴰ z xs → ⊥)
   unfolding beyond
   beyond-of [] ys m = (m, List·Memᴰ·not-nil)
   beyond-of (x ∷ xs) ys m =
-      let w = without-of x (beyond xs ys) m in
+      let w = without-of x (beyond same xs ys) m in
       let b = beyond-of xs ys (w .0) in
       (b .0, λ h. ⊎-elim (w .1) (b .1) (List·Memᴰ·cases-cons h))
 
-  pub beyond-new : (xs : List A) (y : A) → (List·Memᴰ y xs → ⊥) → beyond xs (y ∷ []) ≡ y ∷ []
+  pub beyond-new : (xs : List A) (y : A) → (List·Memᴰ y xs → ⊥) → beyond same xs (y ∷ []) ≡ y ∷ []
   unfolding beyond
   beyond-new [] y n = refl
   beyond-new (x ∷ xs) y n =
       ap (λ t. without same x t) (beyond-new xs y (λ m. n (List·Memᴰ·tail m)))
       ∙ without-absent x (y ∷ []) (λ m. ⊎-elim (λ e. n (List·Memᴰ·head (sym e))) List·Memᴰ·not-nil (List·Memᴰ·cases-cons m))
 
-  beyond-nil : (xs : List A) → beyond xs [] ≡ []
+  pub beyond-nil : (xs : List A) → beyond same xs [] ≡ []
   unfolding beyond without
   beyond-nil [] = refl
   beyond-nil (x ∷ xs) = ap (λ t. without same x t) (beyond-nil xs)
 
-  beyond-known : (xs : List A) (y : A) → List·Memᴰ y xs → beyond xs (y ∷ []) ≡ []
+  beyond-known : (xs : List A) (y : A) → List·Memᴰ y xs → beyond same xs (y ∷ []) ≡ []
   unfolding beyond
-  beyond-known xs y m = empty (beyond xs (y ∷ [])) (λ z h. (beyond-of xs (y ∷ []) h) .1 (Memᴰ·cast (only z ((beyond-of xs (y ∷ []) h) .0)) m))
+  beyond-known xs y m = empty (beyond same xs (y ∷ [])) (λ z h. (beyond-of xs (y ∷ []) h) .1 (Memᴰ·cast (only z ((beyond-of xs (y ∷ []) h) .0)) m))
     where
       only : (z : A) → List·Memᴰ z (y ∷ []) → z ≡ y
       only z h = ⊎-elim (λ e. e) (λ t. absurd (List·Memᴰ·not-nil t)) (List·Memᴰ·cases-cons h)

@@ -1,10 +1,8 @@
 -- The tree of a row by the number of its kind, over the trees of its children. Assumes nothing.
-use Prim.Native.Nat.{ℕ, zero, suc, _≤_, _<_}
+use Prim.Native.Nat.{ℕ, _≤_, _<_}
 use native.Mathlib.Omega.{arith}
-use native.Mathlib.Nat.{le-refl}
-use mathlib.Core.Path.{_≡_, refl, sym, ap, ap₂, _∙_, subst}
-use lib.ListN.{length, getD}
-use Rattle.theory.specs.Expression.{Expression, Sign, ∅, ε, letter, binary, star, union, concatenation, shuffle}
+use mathlib.Core.Path.{_≡_, ap, ap₂, _∙_}
+use Rattle.theory.specs.Expression.{Sign, ∅, ε, letter, binary, star, union, concatenation, shuffle}
 use Rattle.theory.specs.Table.{Table, Row, row, entry, Sound, of-∅, of-ε, of-letter, of-sign, of-star, kind-of-sign, meaning, node, row-tree, trees, tree-at}
 use Rattle.theory.proofs.Trees.{trees-below}
 use Rattle.theory.proofs.Rows.Trees.{sign-meaning}
@@ -17,7 +15,7 @@ sign-kinds union = (omega arith, omega arith)
 sign-kinds concatenation = (omega arith, omega arith)
 sign-kinds shuffle = (omega arith, omega arith)
 
-kind-is : {w : Row} {k l r : ℕ} → w ≡ entry k l r → w .kind ≡ k
+pub kind-is : {w : Row} {k l r : ℕ} → w ≡ entry k l r → w .kind ≡ k
 kind-is e = ap (λ (v : Row). v .kind) e
 
 left-is : {w : Row} {k l r : ℕ} → w ≡ entry k l r → w .left ≡ l

@@ -25,6 +25,7 @@ pub mod WellFormed
 pub mod Tests
 pub mod FirstFound
 pub mod Due
+pub mod Expressed
 pub mod Answers
 pub mod Room
 pub mod Filled

@@ -1,23 +1,21 @@
 -- The automaton as the list of all that is met, in 01's order: states in number order, letters in ascending order for each, members in
 -- list order. What stands of it after a part of that list begins what stands at the end. Leans on `States`. Assumes nothing.
 use Prim.Native.Nat.{ℕ, zero, suc, _+_, _-_, _≤_, _<_}
-use native.Mathlib.Nat.{le-refl, le-of-suc-le-suc, not-suc-le-zero, add-suc, add-zero, zero-add, suc-add}
-use native.Mathlib.Numerals.{add-one, one-add}
+use native.Mathlib.Nat.{add-suc, add-zero, zero-add, suc-add}
+use native.Mathlib.Numerals.{one-add}
 use native.Mathlib.Decide.{le-ind}
 use native.Mathlib.Omega.{arith}
-use mathlib.Core.Path.{_≡_, refl, sym, ap, ap₂, _∙_, subst}
-use mathlib.Core.Logic.{_⊎_, inl, inr, ⊎-elim}
-use mathlib.Core.List.{List, [], _∷_, _++_, map, flatMap, append-assoc, append-nil, map-append, map-map, List·Memᴰ, List·Memᴰ·head, List·Memᴰ·tail, Memᴰ·append-left, Memᴰ·append-right, Memᴰ·cast}
-use lib.ListN.{length, getD, take, drop, length-map, length-append, take-append-drop, List·getD-append}
-use lib.Seq.{take-suc, take-length, length-take-le}
-use Rattle.theory.specs.Expression.{Expression, ∅, ε, same, parts, letters}
-use Rattle.theory.specs.Distinct.{distinct, place, NoRepeats, Within}
+use mathlib.Core.Path.{_≡_, refl, sym, ap, ap₂, _∙_}
+use mathlib.Core.List.{List, [], _∷_, _++_, map, flatMap, append-assoc, append-nil, map-append, map-map, List·Memᴰ}
+use lib.ListN.{length, getD, take}
+use lib.Seq.{take-suc, length-take-le}
+use Rattle.theory.specs.Expression.{Expression, ∅, same}
+use Rattle.theory.specs.Distinct.{distinct, beyond, place, NoRepeats}
 use Rattle.theory.specs.Derivative.{derivative}
-use Rattle.theory.proofs.Distinct.{distinct-append, distinct-known, distinct-new, distinct-of, to-distinct, distinct-no-repeats, beyond, place-of, getD-member}
-use Rattle.theory.proofs.Members.{map-same, flatMap-append, to-flatMap}
-use Rattle.theory.proofs.States.{Begins, states-complete, states-no-repeats, states-only, states-derived, derived-states, met-derived}
-use Rattle.theory.proofs.Bounds.Letters.{derivative-letter, support-letters}
-use Rattle.theory.specs.Automaton.{ascending, alphabet, successors, met, states, Arc, arc, leaving, leaving-all, arcs, expressions}
+use Rattle.theory.proofs.Distinct.{distinct-append, distinct-known, distinct-new, distinct-of, to-distinct, distinct-no-repeats}
+use Rattle.theory.proofs.Members.{map-same, flatMap-append}
+use Rattle.theory.proofs.States.{Begins, states-complete}
+use Rattle.theory.specs.Automaton.{ascending, alphabet, successors, met, states, Arc, arc, leaving, leaving-all, arcs}
 
 -- A member met: from the state of that number, by the letter, that expression.
 pub record Meeting : Type 0 where

@@ -1,5 +1,4 @@
 -- The builder's refusals by their causes, with nothing of the automaton opened. Assumes nothing.
-use Prim.Native.Nat.{_<_}
 use mathlib.Core.Path.{_≡_, refl, sym, _∙_}
 use mathlib.Core.Logic.{inl, inr, ⊎-elim}
 use mathlib.Core.Bool.{Bool, true, cond, _&&_, _||_}
@@ -11,8 +10,8 @@ use Rattle.theory.specs.Refusal.{Refusal, refusal, success, or-else, col
 use Rattle.theory.specs.Table.{Table, tree, table-refusal}
 use Rattle.theory.specs.Automaton.{states, arcs, expressions}
 use Rattle.theory.proofs.Tests.{and-left, and-right, or-true, or-of}
-use Rattle.theory.proofs.TableRefusal.{SameLengths}
-use Rattle.theory.specs.Build.{Lent, even, over-room, build-refusal, expression-room, state-room, arc-room}
+use Rattle.theory.specs.Build.{Lent, even, over-room, build-refusal, expression-room, state-room, arc-room, EvenLent}
+pub use Rattle.theory.specs.Build.{OverRoom, of-expressions, of-states, of-arcs}
 
 module _ (e : Expression) (c : Lent) where
   unfoldable pub expressions-over : Bool
@@ -27,19 +26,6 @@ module _ (e : Expression) (c : Lent) where
   pub over-by-needs : over-room e c ≡ (expressions-over || states-over || arcs-over)
   unfolding over-room expressions-over states-over arcs-over
   over-by-needs = refl
-
--- The columns of each lent table are equally long.
-pub record EvenLent (c : Lent) : Type 0 where
-  pub rows : SameLengths (c .rows)
-  pub states : length (c .accepting) ≡ length (c .expression)
-  pub letter : length (c .letter) ≡ length (c .from)
-  pub to : length (c .to) ≡ length (c .from)
-
--- 01: "a need exceeds its room".
-pub data OverRoom (e : Expression) (c : Lent) : Type 0 where
-  of-expressions : expression-room c < length (expressions e) → OverRoom e c
-  of-states : state-room c < length (states e) → OverRoom e c
-  of-arcs : arc-room c < length (arcs e) → OverRoom e c
 
 -- ---- Even columns
 

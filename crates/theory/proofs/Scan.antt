@@ -74,46 +74,32 @@ unfolding next token
 behind-close x y s fs b e = rw e
 
 -- Where no `*` follows, only a sign or `)` leads on from behind an expression, as the innermost parenthesis asks.
+module _ (x : Expression) (fs : List Frame) (b : ℕ) (n : b ≡ byte-* → ⊥) where
+  behind-stuck : (b ≡ byte-close → next (behind x fs) closing ≡ none) → ((s : Sign) → b ≡ sign-byte s → next (behind x fs) (signing s) ≡ none)
+      → next (behind x fs) (token b) ≡ none
+  unfolding next
+  behind-stuck unclosed unsigned = go (token b) (token-made-of b)
+    where
+      go : (k : Token) → Made-of k b → next (behind x fs) k ≡ none
+      go opening m = refl
+      go closing m = unclosed m
+      go starring m = absurd (n m)
+      go zero m = refl
+      go unit m = refl
+      go other m = refl
+      go (signing s) m = unsigned s m
+      go (naming a) m = refl
+
 pub behind-all : (x : Expression) (b : ℕ) → (b ≡ byte-* → ⊥) → next (behind x []) (token b) ≡ none
 unfolding next
-behind-all x b n = go (token b) (token-made-of b)
-  where
-    go : (k : Token) → Made-of k b → next (behind x []) k ≡ none
-    go opening m = refl
-    go closing m = refl
-    go starring m = absurd (n m)
-    go zero m = refl
-    go unit m = refl
-    go other m = refl
-    go (signing s) m = refl
-    go (naming a) m = refl
+behind-all x b n = behind-stuck x [] b n (λ _. refl) (λ s _. refl)
 
 pub behind-unsigned : (x : Expression) (fs : List Frame) (b : ℕ) → (b ≡ byte-* → ⊥) → ((s : Sign) → b ≡ sign-byte s → ⊥)
     → next (behind x (opened ∷ fs)) (token b) ≡ none
 unfolding next
-behind-unsigned x fs b n h = go (token b) (token-made-of b)
-  where
-    go : (k : Token) → Made-of k b → next (behind x (opened ∷ fs)) k ≡ none
-    go opening m = refl
-    go closing m = refl
-    go starring m = absurd (n m)
-    go zero m = refl
-    go unit m = refl
-    go other m = refl
-    go (signing s) m = absurd (h s m)
-    go (naming a) m = refl
+behind-unsigned x fs b n h = behind-stuck x (opened ∷ fs) b n (λ _. refl) (λ s m. absurd (h s m))
 
 pub behind-unclosed : (x y : Expression) (s : Sign) (fs : List Frame) (b : ℕ) → (b ≡ byte-* → ⊥) → (b ≡ byte-close → ⊥)
     → next (behind y (signed x s ∷ fs)) (token b) ≡ none
 unfolding next
-behind-unclosed x y s fs b n h = go (token b) (token-made-of b)
-  where
-    go : (k : Token) → Made-of k b → next (behind y (signed x s ∷ fs)) k ≡ none
-    go opening m = refl
-    go closing m = absurd (h m)
-    go starring m = absurd (n m)
-    go zero m = refl
-    go unit m = refl
-    go other m = refl
-    go (signing s) m = refl
-    go (naming a) m = refl
+behind-unclosed x y s fs b n h = behind-stuck y (signed x s ∷ fs) b n (λ m. absurd (h m)) (λ g _. refl)

@@ -2,18 +2,18 @@
 use Prim.Native.Nat.{ℕ, zero, suc, _≤_, _<_}
 use native.Mathlib.Omega.{arith}
 use native.Mathlib.Nat.{lt-of-lt-of-le}
-use mathlib.Core.Path.{_≡_, refl, sym, ap, ap₂, _∙_, subst}
-use mathlib.Core.Bool.{Bool, true, false, _&&_, false≢true}
+use mathlib.Core.Path.{_≡_, refl, sym, ap, ap₂, _∙_}
+use mathlib.Core.Bool.{true, _&&_}
 use mathlib.Core.List.{List, [], _∷_, List·Memᴰ, List·Memᴰ·head, List·Memᴰ·tail}
 use lib.Dec.{eqb, leb}
 use borrow.Author.Tests.{eqb-true, leb-true}
 use lib.ListN.{length, getD}
 use Rattle.theory.specs.Expression.{Expression, same, Sign, ∅, ε, letter, binary, star, union, concatenation, shuffle}
 use Rattle.theory.specs.Distinct.{NoRepeats, place}
-use Rattle.theory.specs.Table.{Row, entry, Sound, of-∅, of-ε, of-letter, of-sign, of-star, kind-of-sign, meaning, node, row-tree, fields-fit, children, row-children}
+use Rattle.theory.specs.Table.{Row, entry, Sound, of-∅, of-ε, of-letter, of-sign, of-star, kind-of-sign, meaning, node, row-tree, fields-fit, children, row-children, Faultless}
 use Rattle.theory.proofs.Distinct.{place-of}
 use Rattle.theory.proofs.Rows.Trees.{sign-meaning}
-use Rattle.theory.proofs.WellFormed.{Faultless}
+use Rattle.theory.proofs.Tests.{and-left, and-right}
 
 -- ---- The tree of a row, by its kind
 
@@ -75,14 +75,6 @@ pub faultless-sound : {n i : ℕ} {w : Row} → Faultless n i w → Sound i w
 unfolding meaning fields-fit row-children children kind-of-sign
 faultless-sound {n} {i} {w} h = go (w .kind) refl (h .known) (h .fits) (h .smaller)
   where
-    and-left : (a b : Bool) → (a && b) ≡ true → a ≡ true
-    and-left true b e = refl
-    and-left false b e = e
-
-    and-right : (a b : Bool) → (a && b) ≡ true → b ≡ true
-    and-right true b e = e
-    and-right false b e = absurd (false≢true e)
-
     rows-equal : {k l r : ℕ} → w .kind ≡ k → w .left ≡ l → w .right ≡ r → w ≡ entry k l r
     rows-equal a b c = λ j. record { kind = a j; left = b j; right = c j }
 

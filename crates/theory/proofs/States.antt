@@ -11,10 +11,10 @@ use lib.ListN.{length, length-append, getD}
 use lib.Dec.{eqb}
 use borrow.Author.Tests.{eqb-true, eqb-false}
 use Rattle.theory.specs.Expression.{Expression, same, letters}
-use Rattle.theory.specs.Distinct.{distinct, without, NoRepeats, Within}
+use Rattle.theory.specs.Distinct.{distinct, beyond, without, NoRepeats, Within}
 use Rattle.theory.specs.Derivative.{derivative}
 use Rattle.theory.specs.Automaton.{alphabet, successors, met, rounds, states, Derived, itself, onward}
-use Rattle.theory.proofs.Distinct.{distinct-of, to-distinct, distinct-no-repeats, distinct-append, beyond, no-longer}
+use Rattle.theory.proofs.Distinct.{distinct-of, to-distinct, distinct-no-repeats, distinct-append, no-longer}
 use Rattle.theory.proofs.Support.{support, stays, support-stays, support-bound}
 use Rattle.theory.proofs.Members.{to-flatMap, flatMap-of, flatMap-append}
 

@@ -1,16 +1,12 @@
 -- Refusals 1 to 3 of a table, and what is left where they are not given: 01's order, one step a law. Assumes nothing.
 use Prim.Native.Nat.{_≤_, _<_, pred}
 use mathlib.Core.Path.{_≡_, refl}
-use mathlib.Core.Bool.{Bool, true, false, not, _&&_}
+use mathlib.Core.Bool.{Bool, true, false, _&&_}
 use lib.ListN.{length}
 use lib.Dec.{eqb}
 use borrow.Author.Tests.{eq-eqb, ne-eqb, eqb-true, lt-ltb, le-ltb}
 use Rattle.theory.specs.Refusal.{Refusal, refusal, or-else, columns-differ, table-empty, table-long}
-use Rattle.theory.specs.Table.{Table, row, size, entry-fault, naming-fault, first-fault, table-refusal}
-
--- 01: "Three columns of equal length".
-abbrev pub SameLengths : Table → Type 0
-SameLengths t = (length (t .left) ≡ size t) × (length (t .right) ≡ size t)
+use Rattle.theory.specs.Table.{Table, row, size, entry-fault, naming-fault, first-fault, table-refusal, SameLengths}
 
 lengths-agree : (t : Table) → SameLengths t → (eqb (length (t .left)) (size t) && eqb (length (t .right)) (size t)) ≡ true
 lengths-agree t e = rw (eq-eqb (length (t .left)) (size t) (e .0), eq-eqb (length (t .right)) (size t) (e .1))

@@ -14,15 +14,15 @@ use Rattle.theory.specs.Table.{Table, Row, row, size, Meaning, ∅-kind,
 
 -- ---- A list of children
 
+-- A count's step, taken before a sum or after it.
+pub cond-suc-add : (h : Bool) (n k : ℕ) → cond h (suc (n + k)) (n + k) ≡ cond h (suc n) n + k
+cond-suc-add true n k = omega arith
+cond-suc-add false n k = refl
+
 pub times-append : (i : ℕ) (cs ds : List ℕ) → times i (cs ++ ds) ≡ times i cs + times i ds
 unfolding times
 times-append i [] ds = sym (zero-add (times i ds))
-times-append i (c ∷ cs) ds = go (eqb c i) (times-append i cs ds)
-  where
-    go : (b : Bool) → times i (cs ++ ds) ≡ times i cs + times i ds
-        → cond b (suc (times i (cs ++ ds))) (times i (cs ++ ds)) ≡ cond b (suc (times i cs)) (times i cs) + times i ds
-    go true e = omega arith
-    go false e = e
+times-append i (c ∷ cs) ds = rw (times-append i cs ds, cond-suc-add)
 
 pub times-length : (i : ℕ) (cs : List ℕ) → times i cs ≤ length cs
 unfolding times

@@ -11,18 +11,18 @@ use mathlib.Core.List.{List, [], _∷_, List·Memᴰ, List·Memᴰ·not-nil, Lis
 use lib.ListN.{length, getD, length-append}
 use lib.Dec.{eqb, leb, ltb}
 use borrow.Author.Tests.{ne-eqb, eqb-true, eqb-false, leb-true, ltb-true, ltb-false}
-use Rattle.theory.specs.Expression.{Expression, ∅, letter, entries, letters}
+use Rattle.theory.specs.Expression.{Expression, ∅, entries, letters}
 use Rattle.theory.specs.Refusal.{Refusal, refusal, or-else, kind-unknown, field-outside, child-not-smaller, empty-language-inside}
 use Rattle.theory.specs.Record.{count-below}
-use Rattle.theory.specs.Table.{Table, Row, row, size, tree, tree-at, trees, row-tree, node, Meaning, ∅-kind, ε-kind, letter-kind, sign-kind, star-kind, unknown-kind, meaning, fields-fit, children, row-children, all-below, entry-fault, times, named, naming-fault, table-refusal}
+use Rattle.theory.specs.Table.{Table, Row, row, size, tree, tree-at, trees, row-tree, node, Meaning, ∅-kind, ε-kind, letter-kind, sign-kind, star-kind, unknown-kind, meaning, fields-fit, children, row-children, all-below, entry-fault, named, naming-fault, table-refusal, SameLengths, Faultless, WellFormed}
 use Rattle.theory.proofs.FirstFault.{none-at}
 use Rattle.theory.proofs.Times.{once-of}
-use Rattle.theory.proofs.TableRefusal.{SameLengths, refused-differ, refused-empty, refused-long, refused-later}
+use Rattle.theory.proofs.TableRefusal.{refused-differ, refused-empty, refused-long, refused-later}
 use Rattle.theory.proofs.Sum.{sum-below, sum-over, sum-cong, sum-add, sum-last, sum-ones, sum-count, over-append, over-cong, over-once}
 use Rattle.theory.proofs.Trees.{trees-below, trees-each}
 
 -- 01: "A child's number is smaller than its parent's."
-smaller-of : (i : ℕ) (cs : List ℕ) → all-below i cs ≡ true → (c : ℕ) → List·Memᴰ c cs → c < i
+pub smaller-of : (i : ℕ) (cs : List ℕ) → all-below i cs ≡ true → (c : ℕ) → List·Memᴰ c cs → c < i
 unfolding all-below
 smaller-of i [] e c m = absurd (List·Memᴰ·not-nil m)
 smaller-of i (d ∷ ds) e c m = go (ltb d i) refl e (λ h k. smaller-of i ds h c k) (List·Memᴰ·cases-cons m)
@@ -31,13 +31,6 @@ smaller-of i (d ∷ ds) e c m = go (ltb d i) refl e (λ h k. smaller-of i ds h c
     go true q h rest (inl p) = subst (λ (k : ℕ). k < i) (sym p) (ltb-true d i q)
     go true q h rest (inr k) = rest h k
     go false q h rest k = absurd (false≢true h)
-
--- What is right with entry i of a table of n where nothing is wrong with it.
-pub record Faultless (n i : ℕ) (w : Row) : Type 0 where
-  pub known : w .kind ≤ 6
-  pub fits : fields-fit (meaning (w .kind)) (w .left) (w .right) ≡ true
-  pub smaller : (c : ℕ) → List·Memᴰ c (row-children w) → c < i
-  pub alone : w .kind ≡ 0 → n ≤ 1
 
 faultless-of : (n i : ℕ) (w : Row) → entry-fault n i w ≡ 0 → Faultless n i w
 unfolding entry-fault
@@ -57,14 +50,6 @@ faultless-of n i w e =
         record { known = ltb-false 6 (w .kind) p; fits = q; smaller = smaller-of i (row-children w) r; alone = λ _. ltb-false 1 n u }
     go false true true false e p q r s u z =
         record { known = ltb-false 6 (w .kind) p; fits = q; smaller = smaller-of i (row-children w) r; alone = λ k. absurd (eqb-false (w .kind) 0 s k) }
-
--- A table that the check does not refuse.
-pub record WellFormed (t : Table) : Type 0 where
-  pub lengths : SameLengths t
-  pub nonempty : 0 < size t
-  pub short : size t ≤ 512
-  pub faultless : (i : ℕ) → i < size t → Faultless (size t) i (row t i)
-  pub once : (i : ℕ) → i < pred (size t) → times i (named t (size t)) ≡ 1
 
 both-clear : (r s : Refusal) → (or-else r s) .number ≡ 0 → (r .number ≡ 0) × (s .number ≡ 0)
 both-clear r s e = go (eqb (r .number) 0) refl e

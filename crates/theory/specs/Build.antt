@@ -1,7 +1,7 @@
 -- The promise of `builder::build`: the answer and every lent column at exit, for every table and all lent columns.
 use Prim.Native.Nat.{ℕ, _≤_, _<_, min}
 use mathlib.Core.Path.{_≡_}
-use mathlib.Core.Bool.{Bool, true, false, cond, not, _&&_, _||_}
+use mathlib.Core.Bool.{Bool, true, false, cond, _&&_, _||_}
 use mathlib.Core.List.{List, map}
 use lib.ListN.{length, getD}
 use lib.Dec.{eqb, ltb}
@@ -9,7 +9,7 @@ use Rattle.theory.specs.Expression.{Expression, ∅}
 use Rattle.theory.specs.Distinct.{NoRepeats, Within}
 use Rattle.theory.specs.Refusal.{Refusal, refusal, success, or-else, columns-differ, room-small}
 use Rattle.theory.specs.Column.{zeros, filled}
-use Rattle.theory.specs.Table.{Table, table, row, entry, size, Sound, trees, tree-at, tree, table-refusal}
+use Rattle.theory.specs.Table.{Table, row, entry, Sound, trees, tree-at, tree, table-refusal, SameLengths}
 use Rattle.theory.specs.Automaton.{Arc, states, accepting, arcs, expressions}
 
 -- 01: "The caller lends: expressions (the three columns above), states (expression number 16 bits, accepting 0 or 1 in 8 bits),
@@ -33,6 +33,13 @@ even c =
     eqb (length (c .rows .left)) (length (c .rows .kind)) && eqb (length (c .rows .right)) (length (c .rows .kind))
     && eqb (length (c .accepting)) (length (c .expression)) && eqb (length (c .letter)) (length (c .from)) && eqb (length (c .to)) (length (c .from))
 
+-- The columns of each lent table are equally long: what `even` tests.
+pub record EvenLent (c : Lent) : Type 0 where
+  pub rows : SameLengths (c .rows)
+  pub states : length (c .accepting) ≡ length (c .expression)
+  pub letter : length (c .letter) ≡ length (c .from)
+  pub to : length (c .to) ≡ length (c .from)
+
 -- 01: "Rooms: table length, or 65,535 for expressions and states and 16,777,216 for arcs if that is smaller."
 abbrev pub expression-room : Lent → ℕ
 expression-room c = min (length (c .rows .kind)) 65535
@@ -48,6 +55,12 @@ unfoldable pub over-room : Expression → Lent → Bool
 unfolding expressions states arcs
 over-room e c =
     ltb (expression-room c) (length (expressions e)) || ltb (state-room c) (length (states e)) || ltb (arc-room c) (length (arcs e))
+
+-- 01: "a need exceeds its room": what `over-room` tests.
+pub data OverRoom (e : Expression) (c : Lent) : Type 0 where
+  of-expressions : expression-room c < length (expressions e) → OverRoom e c
+  of-states : state-room c < length (states e) → OverRoom e c
+  of-arcs : arc-room c < length (arcs e) → OverRoom e c
 
 -- 01: "Builder: 1, 2, 3, then entries from 0 upward, each checked for 4, 5, 6, 7; then 8; then 9."
 unfoldable pub build-refusal : Table → Lent → Refusal

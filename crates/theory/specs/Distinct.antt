@@ -1,6 +1,5 @@
 -- Lists without repeats. 01: "a list without repeats, a repeated member kept at its first place".
 use Prim.Native.Nat.{ℕ, suc}
-use mathlib.Core.Path.{_≡_}
 use mathlib.Core.List.{List, [], _∷_, List·Memᴰ}
 
 -- y before ys, unless the question is answered yes
@@ -24,6 +23,12 @@ module _ {A : Type 0} (same : Discrete A) where
   unfolding without
   distinct [] = []
   distinct (x ∷ xs) = x ∷ without x (distinct xs)
+
+  -- ys with each member of xs taken out
+  unfoldable pub beyond : List A → List A → List A
+  unfolding without
+  beyond [] ys = ys
+  beyond (x ∷ xs) ys = without x (beyond xs ys)
 
   -- the first place of x in ys, from 0; the length of ys where x does not stand in it
   unfoldable pub place : A → List A → ℕ

@@ -1,13 +1,13 @@
 -- 01, "The written expression", and refusals 13 to 15: what a text may be, without a parser; and beside it an executable reading.
-use Prim.Native.Nat.{ℕ, zero, suc, _+_, _-_, _≤_, _<_, pred, min}
+use Prim.Native.Nat.{ℕ, suc, _+_, _-_, _≤_, _<_, pred}
 use mathlib.Core.Path.{_≡_}
-use mathlib.Core.Bool.{Bool, true, false, cond, not, _&&_, _||_}
+use mathlib.Core.Bool.{Bool, cond, not, _&&_, _||_}
 use mathlib.Core.List.{List, [], _∷_, _++_}
 use lib.ListN.{length, take}
-use lib.Dec.{T, eqb, leb, ltb}
+use lib.Dec.{T, eqb, leb}
 use Rattle.theory.specs.Expression.{Expression, Sign, ∅, ε, letter, binary, star, union, concatenation, shuffle, entries}
-use Rattle.theory.specs.Refusal.{Refusal, refusal, success, not-grammar, too-deep, too-many-entries}
-use Rattle.theory.specs.Table.{Row, kind-of-sign}
+use Rattle.theory.specs.Refusal.{Refusal, refusal, not-grammar, too-deep, too-many-entries}
+use Rattle.theory.specs.Table.{Row, kind-of-sign, times}
 
 abbrev pub Text : Type 0
 Text = List ℕ
@@ -86,14 +86,10 @@ Viable s = (rest : Text) × Whole (s ++ rest)
 
 -- ---- What a start of a text has opened and made
 
-unfoldable pub times-byte : ℕ → Text → ℕ
-times-byte b [] = 0
-times-byte b (c ∷ t) = cond (eqb c b) (suc (times-byte b t)) (times-byte b t)
-
 -- "parentheses open at once": those opened less those closed.
 unfoldable pub depth : Text → ℕ
-unfolding times-byte
-depth s = times-byte byte-open s - times-byte byte-close s
+unfolding times
+depth s = times byte-open s - times byte-close s
 
 -- 01: "Entries are made in this order: `0`, `1` or a letter at its byte, a star at its `*`, a sign's entry at its `)`."
 unfoldable pub makes-entry : ℕ → Bool

@@ -12,3 +12,4 @@ pub mod Record
 pub mod Read
 pub mod Build
 pub mod Judge
+pub mod Lines

@@ -1,8 +1,8 @@
 -- 01, "The expression table": what its rows say, the tree of each row, and refusals 1 to 8 with their places.
 use Prim.Native.Nat.{ℕ, zero, suc, pred, _≤_, _<_}
 use mathlib.Core.Path.{_≡_}
-use mathlib.Core.Bool.{Bool, true, false, cond, not, _&&_, _||_}
-use mathlib.Core.List.{List, [], _∷_, _++_, map}
+use mathlib.Core.Bool.{Bool, true, false, cond, not, _&&_}
+use mathlib.Core.List.{List, [], _∷_, _++_, map, List·Memᴰ}
 use lib.ListN.{length, getD}
 use lib.Dec.{eqb, leb, ltb}
 use Rattle.theory.specs.Expression.{Expression, Sign, ∅, ε, letter, binary, star, union, concatenation, shuffle}
@@ -131,6 +131,7 @@ entry-fault n i w =
     (cond (not (all-below i (row-children w))) child-not-smaller
     (cond (eqb (w .kind) 0 && ltb 1 n) empty-language-inside 0)))
 
+-- How often a number stands in a list.
 unfoldable pub times : ℕ → List ℕ → ℕ
 times i [] = 0
 times i (c ∷ cs) = cond (eqb c i) (suc (times i cs)) (times i cs)
@@ -160,3 +161,25 @@ table-refusal t =
     (cond (eqb (size t) 0) (refusal table-empty 0)
     (cond (ltb 512 (size t)) (refusal table-long 0)
     (or-else (first-fault (λ i. entry-fault (size t) i (row t i)) 0 (size t)) (first-fault (naming-fault t) 0 (pred (size t))))))
+
+-- ---- A table without refusal
+
+-- 01: "Three columns of equal length".
+abbrev pub SameLengths : Table → Type 0
+SameLengths t = (length (t .left) ≡ size t) × (length (t .right) ≡ size t)
+
+-- Entry i of a table of n, where none of 4 to 7 is due. 01: "A child's number is smaller than its parent's"; "Kind 0 may stand only as the
+-- single entry of a one-entry table".
+pub record Faultless (n i : ℕ) (w : Row) : Type 0 where
+  pub known : w .kind ≤ 6
+  pub fits : fields-fit (meaning (w .kind)) (w .left) (w .right) ≡ true
+  pub smaller : (c : ℕ) → List·Memᴰ c (row-children w) → c < i
+  pub alone : w .kind ≡ 0 → n ≤ 1
+
+-- 01: "A table has 1 to 512 entries"; "Every entry but the last is named as a child exactly once".
+pub record WellFormed (t : Table) : Type 0 where
+  pub lengths : SameLengths t
+  pub nonempty : 0 < size t
+  pub short : size t ≤ 512
+  pub faultless : (i : ℕ) → i < size t → Faultless (size t) i (row t i)
+  pub once : (i : ℕ) → i < pred (size t) → times i (named t (size t)) ≡ 1

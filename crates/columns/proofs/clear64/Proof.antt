@@ -1,62 +1,32 @@
-use Prim.Native.Nat.{_-_}
-use native.Mathlib.Omega.{arith}
+-- `clear64` leaves zeros: the laws of `Clearing`, which hold at any width.
 use borrow.Author.Needs.{needs}
-use lib.ListN.{length, length-set}
-use Rattle.columns.proofs.Clearing.{Cleared, cleared-none, cleared-more, cleared-length, cleared-all}
+use Rattle.columns.proofs.Clearing.{Clearing, still-set, cleared-more, cleared-all}
 use Rattle.columns.proofs.clear64.Statement.{statement}
 use Rattle.columns.proofs.clear64.Tie as tie
-use Rattle.columns.proofs.clear64.Reads as reads
-use Rattle.columns.proofs.clear64.Lts as lts
 
-abbrev Inv-loop : tie.InvT-loop
-Inv-loop column₀ i₀ column i = Cleared column₀ column i
+loop-holds : tie.Need-loop-holds Clearing still-set
+loop-holds c = search needs
 
-abbrev μ-loop : tie.MeasureT-loop
-μ-loop column₀ i₀ column i = length column - i
-
--- src/lib.rt:32:5
-loop-holds : tie.Need-loop-holds Inv-loop μ-loop
-loop-holds c = cleared-none _
-
--- src/lib.rt:33:9
-mul-column : tie.Need-mul-column Inv-loop μ-loop
+mul-column : tie.Need-mul-column Clearing still-set
 mul-column c = search needs
 
--- src/lib.rt:33:9
-slice-write-column : tie.Need-slice-write-column Inv-loop μ-loop
+slice-write-column : tie.Need-slice-write-column Clearing still-set
 slice-write-column c = search needs
 
--- src/lib.rt:34:9
-add-i : tie.Need-add-i Inv-loop μ-loop
+add-i : tie.Need-add-i Clearing still-set
 add-i c = search needs
 
--- src/lib.rt:32:5
-loop-less : tie.Need-loop-less Inv-loop μ-loop
-loop-less c = simp length-set (omega arith)
+loop-less : tie.Need-loop-less Clearing still-set
+loop-less c = search needs
 
--- src/lib.rt:32:5
-loop-again : tie.Need-loop-again Inv-loop μ-loop
+loop-again : tie.Need-loop-again Clearing still-set
 loop-again c = cleared-more (c .before .loop .inv) (c .loop-test .taken)
 
--- src/lib.rt:28:1
-same-length : tie.Need-same-length Inv-loop μ-loop
-same-length c = cleared-length (c .before .loop .inv)
+same-length : tie.Need-same-length Clearing still-set
+same-length c = search needs
 
--- src/lib.rt:28:1
-returns : tie.Need-returns Inv-loop μ-loop
+returns : tie.Need-returns Clearing still-set
 returns c = cleared-all (c .before .loop .inv) (c .loop-test .left)
 
 pub clear64-spec : {M : Type 1} → statement M
-clear64-spec =
-    tie.close
-    (tie.spec
-    Inv-loop
-    μ-loop
-    loop-holds
-    mul-column
-    slice-write-column
-    add-i
-    loop-less
-    loop-again
-    same-length
-    returns)
+clear64-spec = tie.close (tie.spec Clearing still-set loop-holds mul-column slice-write-column add-i loop-less loop-again same-length returns)

@@ -4,20 +4,14 @@ use native.Mathlib.Nat.{le-trans}
 use native.Mathlib.Decide.{ℕ-discrete}
 use native.Mathlib.Omega.{arith}
 use mathlib.Core.Path.{_≡_, refl, sym, ap, _∙_}
-use mathlib.Core.Logic.{inl, inr, ⊎-elim}
-use mathlib.Core.Bool.{Bool, true, false, cond, _&&_, _||_, false≢true}
-use lib.ListN.{length}
-use lib.Dec.{eqb, ltb}
-use borrow.Author.Tests.{eqb-true, eq-eqb, ltb-true, lt-ltb}
-use Rattle.theory.specs.Expression.{Expression}
-use Rattle.theory.specs.Refusal.{Refusal, refusal, success, or-else, columns-differ, room-small}
-use Rattle.theory.specs.Table.{Table, tree, table-refusal}
+use mathlib.Core.Bool.{Bool, true, false, cond, false≢true}
+use Rattle.theory.specs.Refusal.{Refusal, refusal, success, or-else, room-small}
+use Rattle.theory.specs.Table.{Table, tree, WellFormed}
 use Rattle.theory.specs.Automaton.{states, arcs, expressions}
-use Rattle.theory.specs.Build.{Lent, Counts, counts, Built, even, over-room, build-refusal, expression-room, state-room, arc-room}
-use Rattle.theory.proofs.Tests.{and-left, and-right, or-true, or-of, false-of}
+use Rattle.theory.specs.Build.{Lent, Counts, counts, Built, even, over-room, build-refusal, EvenLent}
+use Rattle.theory.proofs.Tests.{false-of}
 use Rattle.theory.proofs.Answers.{counts-built, counts-refused}
-use Rattle.theory.proofs.WellFormed.{WellFormed}
-use Rattle.theory.proofs.Room.{EvenLent, OverRoom, of-expressions, of-states, of-arcs, even-passed, even-passes, over-found, over-passes, ordered, refusal-by}
+use Rattle.theory.proofs.Room.{even-passed, even-passes, over-found, over-passes, ordered, refusal-by}
 use Rattle.promises.specs.Table as Tables
 use Rattle.promises.specs.Table.{TableCause}
 use Rattle.promises.specs.Builder.{BuilderCause, differ, table, room, none, BuilderMeets}

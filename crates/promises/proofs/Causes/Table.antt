@@ -3,19 +3,18 @@ use Prim.Native.Nat.{ℕ, pred, _≤_, _<_}
 use native.Mathlib.Decide.{ℕ-discrete, decLt}
 use native.Mathlib.Omega.{arith}
 use mathlib.Core.Path.{_≡_, refl, sym, ap, _∙_, subst}
-use mathlib.Core.Logic.{_⊎_, inl, inr}
 use mathlib.Core.Bool.{Bool, true, false, cond, not, _&&_, false≢true}
-use mathlib.Core.List.{List, [], _∷_, List·Memᴰ, List·Memᴰ·head, List·Memᴰ·tail, List·Memᴰ·not-nil, List·Memᴰ·cases-cons}
+use mathlib.Core.List.{List, [], _∷_, List·Memᴰ, List·Memᴰ·head, List·Memᴰ·tail, List·Memᴰ·not-nil}
 use lib.ListN.{length}
 use lib.Dec.{eqb, ltb}
 use borrow.Author.Tests.{eqb-true, eqb-false, eq-eqb, ne-eqb, ltb-true, ltb-false, lt-ltb, le-ltb}
 use Rattle.theory.specs.Refusal.{Refusal, refusal, success, or-else, kind-unknown, field-outside, child-not-smaller, empty-language-inside}
-use Rattle.theory.specs.Table.{Table, Row, row, size, meaning, children, fields-fit, row-children, all-below, entry-fault, naming-fault, first-fault, table-refusal}
+use Rattle.theory.specs.Table.{Table, Row, row, size, meaning, children, fields-fit, row-children, all-below, entry-fault, naming-fault, first-fault, table-refusal, SameLengths, Faultless, WellFormed}
 use Rattle.theory.proofs.Tests.{false-of, true-of}
-use Rattle.theory.proofs.TableRefusal.{SameLengths, refused-differ, refused-empty, refused-long, refused-later}
+use Rattle.theory.proofs.TableRefusal.{refused-differ, refused-empty, refused-long, refused-later}
 use Rattle.theory.proofs.Times.{fault-none, fault-found, once-of}
 use Rattle.theory.proofs.FirstFound.{Scanned, clean, faulty, scanned, scanned-once}
-use Rattle.theory.proofs.WellFormed.{Faultless, WellFormed}
+use Rattle.theory.proofs.WellFormed.{smaller-of}
 use Rattle.promises.specs.Table.{EntryCause, unknown, outside, not-smaller, inside, Sized, FaultlessBefore, NamedOnce, TableCause, differ, empty, long, entry, not-once, none}
 
 -- ---- One entry
@@ -30,16 +29,6 @@ larger-found i (d ∷ ds) e = go (ltb d i) refl e (larger-found i ds)
         → (c : ℕ) × List·Memᴰ c (d ∷ ds) × (i ≤ c)
     go true q h ih = let (c, m, l) = ih h in (c, List·Memᴰ·tail m, l)
     go false q h ih = (d, List·Memᴰ·head refl, ltb-false d i q)
-
-all-smaller : (i : ℕ) (cs : List ℕ) → all-below i cs ≡ true → (c : ℕ) → List·Memᴰ c cs → c < i
-unfolding all-below
-all-smaller i [] e c m = absurd (List·Memᴰ·not-nil m)
-all-smaller i (d ∷ ds) e c m = go (ltb d i) refl e (λ h k. all-smaller i ds h c k) (List·Memᴰ·cases-cons m)
-  where
-    go : (b : Bool) → ltb d i ≡ b → (b && all-below i ds) ≡ true → (all-below i ds ≡ true → List·Memᴰ c ds → c < i) → (c ≡ d) ⊎ List·Memᴰ c ds → c < i
-    go true q h rest (inl p) = let l = ltb-true d i q in omega arith
-    go true q h rest (inr k) = rest h k
-    go false q h rest k = absurd (false≢true h)
 
 -- An entry is without fault or there is cause for its refusal.
 data Examined (n i : ℕ) (w : Row) : ℕ → Type 0 where
@@ -64,12 +53,12 @@ module _ (n i : ℕ) (w : Row) where
           let (c, m, l) = larger-found i (row-children w) r in wrong (not-smaller (ltb-false 6 (w .kind) p) q c m l) (λ z. omega arith)
       go false true true true true p q r s u = wrong (inside (eqb-true (w .kind) 0 s) q (ltb-true 1 n u)) (λ z. omega arith)
       go false true true true false p q r s u =
-          right (record { known = ltb-false 6 (w .kind) p; fits = q; smaller = all-smaller i (row-children w) r; alone = λ _. ltb-false 1 n u })
+          right (record { known = ltb-false 6 (w .kind) p; fits = q; smaller = smaller-of i (row-children w) r; alone = λ _. ltb-false 1 n u })
       go false true true false e p q r s u =
           right (record {
             known = ltb-false 6 (w .kind) p;
             fits = q;
-            smaller = all-smaller i (row-children w) r;
+            smaller = smaller-of i (row-children w) r;
             alone = λ k. absurd (eqb-false (w .kind) 0 s k);
           })
 
@@ -87,7 +76,7 @@ module _ (n i : ℕ) (w : Row) where
   fault-due (unknown l) = due (lt-ltb 6 (w .kind) l) refl refl refl refl
   fault-due (outside l f) = due (le-ltb 6 (w .kind) l) (false-of _ f) refl refl refl
   fault-due (not-smaller l f c m b) =
-      due (le-ltb 6 (w .kind) l) f (false-of _ (λ e. let k = all-smaller i (row-children w) e c m in omega arith)) refl refl
+      due (le-ltb 6 (w .kind) l) f (false-of _ (λ e. let k = smaller-of i (row-children w) e c m in omega arith)) refl refl
   fault-due (inside z f l) =
       due (le-ltb 6 (w .kind) (omega arith)) f (smaller-passes (λ c m. absurd (List·Memᴰ·not-nil (rw z at m)))) (eq-eqb (w .kind) 0 z) (lt-ltb 1 n l)
 

@@ -5,8 +5,8 @@ use mathlib.Core.Logic.{⊎-elim}
 use denote.Ref.{now}
 use borrow.Author.Needs.{needs}
 use borrow.Author.Tests.{eqb-true, eqb-false, not-true, not-false}
-use Rattle.theory.specs.Table.{table}
-use Rattle.theory.proofs.TableRefusal.{SameLengths, refused-differ, refused-empty, refused-long, refused-later}
+use Rattle.theory.specs.Table.{table, SameLengths}
+use Rattle.theory.proofs.TableRefusal.{refused-differ, refused-empty, refused-long, refused-later}
 use Rattle.table.proofs.Scanning.{scanned-for, scanned-refused, first-stands, second-stands}
 use Rattle.table.proofs.check.Statement.{statement}
 use Rattle.table.proofs.check.Tie as tie

@@ -12,21 +12,14 @@ use Rattle.theory.specs.Expression.{Expression, Sign, ∅, ε, letter, b
 use Rattle.theory.specs.Derivative.{joined}
 use Rattle.theory.specs.Distinct.{Within}
 use Rattle.theory.proofs.Derivative.{joined-cases}
+use Rattle.theory.proofs.Rows.Trees.{parts-length}
 use Rattle.theory.proofs.Members.{length-flatMap, to-flatMap}
 use Rattle.theory.proofs.Support.{support, support-bound}
 use Rattle.theory.proofs.Support.Inherited.{Inherited, inherited}
 
 -- ---- The parts
 
-pub parts-length : (e : Expression) → length (parts e) ≡ entries e
-unfolding parts entries
-parts-length ∅ = refl
-parts-length ε = refl
-parts-length (letter a) = refl
-parts-length (binary s x y) = let l = parts-length x in let r = parts-length y in simp length-append (omega arith)
-parts-length (star x) = let l = parts-length x in simp length-append (omega arith)
-
-part-whole : (e : Expression) → List·Memᴰ e (parts e)
+pub part-whole : (e : Expression) → List·Memᴰ e (parts e)
 unfolding parts
 part-whole ∅ = List·Memᴰ·head refl
 part-whole ε = List·Memᴰ·head refl
@@ -34,15 +27,15 @@ part-whole (letter a) = List·Memᴰ·head refl
 part-whole (binary s x y) = Memᴰ·append-right (parts x ++ parts y) (List·Memᴰ·head refl)
 part-whole (star x) = Memᴰ·append-right (parts x) (List·Memᴰ·head refl)
 
-part-left : (s : Sign) (x y : Expression) → Within (parts x) (parts (binary s x y))
+pub part-left : (s : Sign) (x y : Expression) → Within (parts x) (parts (binary s x y))
 unfolding parts
 part-left s x y z h = Memᴰ·append-left _ (Memᴰ·append-left (parts y) h)
 
-part-right : (s : Sign) (x y : Expression) → Within (parts y) (parts (binary s x y))
+pub part-right : (s : Sign) (x y : Expression) → Within (parts y) (parts (binary s x y))
 unfolding parts
 part-right s x y z h = Memᴰ·append-left _ (Memᴰ·append-right (parts x) h)
 
-part-inner : (x : Expression) → Within (parts x) (parts (star x))
+pub part-inner : (x : Expression) → Within (parts x) (parts (star x))
 unfolding parts
 part-inner x z h = Memᴰ·append-left _ h
 

@@ -1,29 +1,21 @@
 -- What a text has open is what its stand has open, and the entries that an expression's text makes are the expression's.
-use Prim.Native.Nat.{ℕ, suc, _+_, _≤_, _<_}
+use Prim.Native.Nat.{ℕ, _+_, _≤_, _<_}
 use native.Mathlib.Nat.{zero-add, add-zero, lt-irrefl}
 use native.Mathlib.Omega.{arith}
 use mathlib.Core.Path.{_≡_, refl, sym}
-use mathlib.Core.Bool.{Bool, true, false, cond}
+use mathlib.Core.Bool.{Bool, true, false}
 use mathlib.Core.List.{List, [], _∷_, _++_}
 use mathlib.Core.Option.{some}
 use lib.ListN.{length}
 use lib.Dec.{T, eqb}
 use Rattle.theory.specs.Expression.{Expression, Sign, union, concatenation, shuffle, ∅, ε, letter, binary, star, entries}
-use Rattle.theory.specs.Grammar.{Text, written, sign-byte, byte-open, byte-close, byte-+, byte-dot, byte-&, Inner, Writable, is-letter, times-byte, depth, makes-entry, made}
+use Rattle.theory.specs.Table.{times}
+use Rattle.theory.specs.Grammar.{Text, written, sign-byte, byte-open, byte-close, byte-+, byte-dot, byte-&, Inner, Writable, is-letter, depth, makes-entry, made}
 use Rattle.theory.specs.Scan.{Stand, before, behind, ended, Frame, opened, signed, open-at}
+use Rattle.theory.proofs.Times.{cond-suc-add, times-append}
 use Rattle.theory.proofs.Grammar.Bytes.{letter-not}
 use Rattle.theory.proofs.Grammar.Run.{run, start}
 use Rattle.theory.proofs.Grammar.Spell.{spell-frames, spell, Inner-frames, Inner-stand, spelled}
-
--- A count's step, taken before a sum or after it.
-pub cond-suc-add : (h : Bool) (n k : ℕ) → cond h (suc (n + k)) (n + k) ≡ cond h (suc n) n + k
-cond-suc-add true n k = omega arith
-cond-suc-add false n k = refl
-
-times-append : (b : ℕ) (s t : Text) → times-byte b (s ++ t) ≡ times-byte b s + times-byte b t
-unfolding times-byte
-times-append b [] t = sym (zero-add (times-byte b t))
-times-append b (c ∷ s) t = rw (times-append b s t, cond-suc-add)
 
 pub made-append : (s t : Text) → made (s ++ t) ≡ made s + made t
 unfolding made
@@ -44,23 +36,23 @@ sign-not-close union = refl
 sign-not-close concatenation = refl
 sign-not-close shuffle = refl
 
-balanced : (e : Expression) → Inner e → times-byte byte-open (written e) ≡ times-byte byte-close (written e)
-unfolding times-byte written
+balanced : (e : Expression) → Inner e → times byte-open (written e) ≡ times byte-close (written e)
+unfolding times written
 balanced ∅ i = refl
 balanced ε i = refl
 balanced (letter a) i = simp (letter-not a i byte-open tt, letter-not a i byte-close tt)
 balanced (binary s x y) i = simp (times-append, sign-not-open, sign-not-close) (omega (arith, balanced x (i .0), balanced y (i .1)))
 balanced (star x) i = simp times-append (omega (arith, balanced x i))
 
-frames-open : (fs : List Frame) → Inner-frames fs → times-byte byte-open (spell-frames fs) ≡ times-byte byte-close (spell-frames fs) + length fs
-unfolding times-byte spell-frames
+frames-open : (fs : List Frame) → Inner-frames fs → times byte-open (spell-frames fs) ≡ times byte-close (spell-frames fs) + length fs
+unfolding times spell-frames
 frames-open [] i = refl
 frames-open (opened ∷ fs) i = simp times-append (omega (arith, frames-open fs i))
 frames-open (signed x s ∷ fs) i =
     simp (times-append, sign-not-open, sign-not-close) (omega (arith, frames-open fs (i .1), balanced x (i .0)))
 
-stand-open : (c : Stand) → Inner-stand c → times-byte byte-open (spell c) ≡ times-byte byte-close (spell c) + open-at c
-unfolding times-byte spell open-at
+stand-open : (c : Stand) → Inner-stand c → times byte-open (spell c) ≡ times byte-close (spell c) + open-at c
+unfolding times spell open-at
 stand-open (before fs) i = frames-open fs i
 stand-open (behind e fs) i = simp times-append (omega (arith, frames-open fs (i .1), balanced e (i .0)))
 stand-open ended i = refl
@@ -78,7 +70,7 @@ sign-makes-none union = refl
 sign-makes-none concatenation = refl
 sign-makes-none shuffle = refl
 
-letter-makes : (a : ℕ) → T (is-letter a) → makes-entry a ≡ true
+pub letter-makes : (a : ℕ) → T (is-letter a) → makes-entry a ≡ true
 unfolding makes-entry
 letter-makes a i = let no = letter-not a i in rw (no byte-open tt, no byte-+ tt, no byte-dot tt, no byte-& tt)
 
@@ -100,7 +92,7 @@ made-written (star x) w = made-inner (star x) w
 
 -- A byte that makes an entry is no `(`.
 pub entry-not-deeper : (s : Text) (b : ℕ) → made s < made (s ++ b ∷ []) → depth (s ++ b ∷ []) ≤ depth s
-unfolding depth made times-byte
+unfolding depth made times
 entry-not-deeper s b h = go (eqb b byte-open) refl
   where
     go : (o : Bool) → eqb b byte-open ≡ o → depth (s ++ b ∷ []) ≤ depth s

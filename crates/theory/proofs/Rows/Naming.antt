@@ -4,23 +4,18 @@ use native.Mathlib.Nat.{zero-add, add-zero, add-suc, suc-add}
 use native.Mathlib.Decide.{ℕ-discrete}
 use native.Mathlib.Numerals.{add-one}
 use native.Mathlib.Omega.{arith}
-use mathlib.Core.Path.{_≡_, refl, sym}
+use mathlib.Core.Path.{_≡_, refl}
 use mathlib.Core.List.{List, [], _∷_, _++_, foldl, append-nil, foldl-append}
 use lib.ListN.{length}
 use borrow.Author.Tests.{eq-eqb, ne-eqb}
 use Rattle.theory.specs.Expression.{Expression, ∅, ε, letter, binary, star, entries}
 use Rattle.theory.specs.Table.{Row, columns, row-children, named, times}
 use Rattle.theory.specs.Grammar.{rows}
-use Rattle.theory.proofs.Grammar.Count.{cond-suc-add}
+use Rattle.theory.proofs.Times.{times-append}
 use Rattle.theory.proofs.Rows.Along.{along}
 use Rattle.theory.proofs.Rows.Trees.{sign-meaning, rows-length}
 
 -- ---- How often a number stands in a list
-
-times-append : (i : ℕ) (s t : List ℕ) → times i (s ++ t) ≡ times i s + times i t
-unfolding times
-times-append i [] t = sym (zero-add (times i t))
-times-append i (c ∷ s) t = rw (times-append i s t, cond-suc-add)
 
 times-pair : (i l r : ℕ) → times i (l ∷ r ∷ []) ≡ times i (l ∷ []) + times i (r ∷ [])
 times-pair i l r = times-append i (l ∷ []) (r ∷ [])

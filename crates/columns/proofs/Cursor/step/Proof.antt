@@ -1,23 +1,18 @@
+-- `step` gives the byte at the cursor with the cursor behind it, or the end.
 use borrow.Author.Needs.{needs}
 use borrow.Author.Tests.{lt-ltb, le-ltb}
 use Rattle.columns.proofs.Cursor.step.Statement.{statement}
 use Rattle.columns.proofs.Cursor.step.Tie as tie
-use Rattle.columns.proofs.Cursor.step.Reads as reads
-use Rattle.columns.proofs.Cursor.step.Lts as lts
 
--- src/lib.rt:62:24
 shared-slice-read-t8 : tie.Need-shared-slice-read-t8
 shared-slice-read-t8 c = search needs
 
--- src/lib.rt:62:48
 add-t9 : tie.Need-add-t9
 add-t9 c = search needs
 
--- src/lib.rt:57:5
 returns : tie.Need-returns
 returns c = simp (lt-ltb _ _ (c .before .if1 .taken))
 
--- src/lib.rt:57:5
 returns-2 : tie.Need-returns-2
 returns-2 c = simp (le-ltb _ _ (c .if1 .left))
 

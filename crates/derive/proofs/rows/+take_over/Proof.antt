@@ -6,9 +6,9 @@ use Prim.Native.Nat.{ℕ}
 use Rattle.derive.proofs.Answering.{sound-read}
 use Rattle.derive.proofs.Taking.{takes-row, parts-of-left, parts-of-right, star-joined, sign-joined, sign-sound}
 use native.Mathlib.Omega.{arith}
-use mathlib.Core.Path.{_≡_, refl, sym, ap, ap₂, _∙_, subst}
+use mathlib.Core.Path.{ap}
 use Rattle.derive.proofs.Answering.{sound-to-less, left-below, right-below}
-use Rattle.derive.proofs.Taking.{Brought, brought-none, brought-child, brought-then, takes-join, takes-short, leaf-sound, leaf-tree, took, took-not, parts-left, parts-right, parts-star}
+use Rattle.derive.proofs.Taking.{brought-none, brought-child, brought-then, takes-short, leaf-sound, leaf-tree, took, took-not}
 use Prim.Native.Nat.{ℕ, _<_}
 use borrow.Fn.Kinds.{In}
 use borrow.Fn.PlainCycle.{Measures, is, falls, and}

@@ -21,22 +21,18 @@ cast-result-2 : tie.Need-cast-result-2
 cast-result-2 c = search needs
 
 returns : tie.Need-returns
-unfolding row-children
 returns c =
     let a = c .before .before .args in
-    let w = a .w in
-    sym (ap (all-below (a .i)) (children-star (w .kind) (w .left) (w .right) (c .before .match .keys1)) ∙ one-below (a .i) (w .left))
+    sym (ap (all-below (a .i)) (children-star (as-row (a .w)) (c .before .match .keys1)) ∙ one-below (a .i) (a .w .left))
 
 -- A sign's two children, at the places where the test of the left is over.
 signs : (c : tie.Then2)
     → all-below (c .before .before .before .args .i) (row-children (as-row (c .before .before .before .args .w)))
     ≡ (ltb (c .before .before .before .args .w .left) (c .before .before .before .args .i)
     && ltb (c .before .before .before .args .w .right) (c .before .before .before .args .i))
-unfolding row-children
 signs c =
     let a = c .before .before .before .args in
-    let w = a .w in
-    ap (all-below (a .i)) (children-sign (w .kind) (w .left) (w .right) (c .before .if1 .left) (omega arith)) ∙ two-below (a .i) (w .left) (w .right)
+    ap (all-below (a .i)) (children-sign (as-row (a .w)) (c .before .if1 .left) (omega arith)) ∙ two-below (a .i) (a .w .left) (a .w .right)
 
 returns-2 : tie.Need-returns-2
 returns-2 c =
@@ -50,16 +46,12 @@ returns-3 c =
     e ∙ sym (signs (c .before .before) ∙ ap (λ b. b && ltb (a .w .right) (a .i)) e)
 
 returns-4 : tie.Need-returns-4
-unfolding row-children all-below
-returns-4 c =
-    let w = c .before .before .args .w in
-    simp (children-leaf (w .kind) (w .left) (w .right) (c .if1 .taken))
+unfolding all-below
+returns-4 c = simp (children-leaf (as-row (c .before .before .args .w)) (c .if1 .taken))
 
 returns-5 : tie.Need-returns-5
-unfolding row-children all-below
-returns-5 c =
-    let w = c .before .before .before .args .w in
-    simp (children-unknown (w .kind) (w .left) (w .right) (omega (arith, c .before .before .match .rest .1)))
+unfolding all-below
+returns-5 c = simp (children-unknown (as-row (c .before .before .before .args .w)) (omega (arith, c .before .before .match .rest .1)))
 
 pub children-smaller-spec : {M : Type 1} → statement M
 children-smaller-spec =

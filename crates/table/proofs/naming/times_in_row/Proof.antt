@@ -4,9 +4,10 @@ use mathlib.Core.Path.{sym, ap₂, _∙_}
 use mathlib.Core.List.{[], _∷_}
 use borrow.Author.Needs.{needs}
 use native.Mathlib.Omega.{arith}
-use Rattle.theory.specs.Table.{row-children, times}
+use Rattle.theory.specs.Table.{times}
 use Rattle.theory.proofs.Times.{times-append, times-length}
 use Rattle.theory.proofs.ByKind.{children-leaf, children-sign, children-star, children-unknown}
+use Rattle.columns.specs.Row.{as-row}
 use Rattle.table.proofs.naming.times_in_row.Statement.{statement}
 use Rattle.table.proofs.naming.times_in_row.Tie as tie
 
@@ -25,30 +26,21 @@ add-result c =
     omega (arith, c .before .times-as2 .ensures, c .times-as3 .ensures, times-length (a .i) (a .w .left ∷ []), times-length (a .i) (a .w .right ∷ []))
 
 returns : tie.Need-returns
-unfolding row-children times
-returns c =
-    let w = c .before .before .args .w in
-    c .times-as .ensures ∙ simp (children-star (w .kind) (w .left) (w .right) (c .before .match .keys1))
+returns c = c .times-as .ensures ∙ simp (children-star (as-row (c .before .before .args .w)) (c .before .match .keys1))
 
 returns-2 : tie.Need-returns-2
-unfolding row-children times
 returns-2 c =
     let a = c .before .before .before .before .before .args in
-    let w = a .w in
-    ap₂ _+_ (c .before .times-as2 .ensures) (c .times-as3 .ensures) ∙ sym (times-append (a .i) (w .left ∷ []) (w .right ∷ []))
-    ∙ simp (children-sign (w .kind) (w .left) (w .right) (c .before .before .before .if1 .left) (omega arith))
+    ap₂ _+_ (c .before .times-as2 .ensures) (c .times-as3 .ensures) ∙ sym (times-append (a .i) (a .w .left ∷ []) (a .w .right ∷ []))
+    ∙ simp (children-sign (as-row (a .w)) (c .before .before .before .if1 .left) (omega arith))
 
 returns-3 : tie.Need-returns-3
-unfolding row-children times
-returns-3 c =
-    let w = c .before .before .args .w in
-    simp (children-leaf (w .kind) (w .left) (w .right) (c .if1 .taken))
+unfolding times
+returns-3 c = simp (children-leaf (as-row (c .before .before .args .w)) (c .if1 .taken))
 
 returns-4 : tie.Need-returns-4
-unfolding row-children times
-returns-4 c =
-    let w = c .before .before .before .args .w in
-    simp (children-unknown (w .kind) (w .left) (w .right) (omega (arith, c .before .before .match .rest .1)))
+unfolding times
+returns-4 c = simp (children-unknown (as-row (c .before .before .before .args .w)) (omega (arith, c .before .before .match .rest .1)))
 
 pub times-in-row-spec : {M : Type 1} → statement M
 times-in-row-spec =

@@ -1,0 +1,77 @@
+-- Text behind text.
+use Prim.Native.Nat.{ℕ, suc, _+_, _^_, _≤_, _<_}
+use native.Mathlib.Nat.{add-zero, add-assoc}
+use native.Mathlib.Omega.{arith}
+use mathlib.Core.Path.{_≡_, refl, sym, ap, _∙_, subst}
+use mathlib.Core.List.{List, [], _∷_, _++_, append-nil, append-assoc}
+use lib.ListN.{length, getD, take, set, length-set, length-append}
+use lib.Seq.{length-take-le, take-all, take-suc, take-suc-set}
+use Rattle.io.specs.Counts.{Counts}
+use Rattle.io.specs.Digits.{Fewest}
+use Rattle.io.specs.Digits.{digits as Digits·digits}
+use Rattle.theory.specs.Lines.{number-and}
+use Rattle.lines.specs.Output.{Put}
+use Rattle.lines.proofs.Decimal.{decimal-digits, twenty-digits}
+
+pub put-none : (block : List ℕ) (used : ℕ) → Put [] block used block (used + 0)
+put-none block used = record {
+  count = refl;
+  stands = ap (λ (n : ℕ). take n block) (add-zero used) ∙ sym (append-nil (take used block));
+  same-length = refl;
+}
+
+one-more : (n : ℕ) → n + 1 ≡ suc n
+one-more n = omega arith
+
+pub put-byte : {text before after : List ℕ} {used used′ : ℕ} (b : ℕ) → Put text before used after used′ → used′ < length after
+    → Put (text ++ (b ∷ [])) before used (set after used′ b) (used′ + 1)
+put-byte {text} {before} {after} {used} {used′} b p l = record {
+  count = let n = p .count in let k = length-append text (b ∷ []) in omega arith;
+  stands =
+      ap (λ (n : ℕ). take n (set after used′ b)) (one-more used′) ∙ take-suc-set after used′ b l ∙ ap (λ (r : List ℕ). r ++ (b ∷ [])) (p .stands)
+      ∙ append-assoc (take used before) text (b ∷ []);
+  same-length = length-set after used′ b ∙ p .same-length;
+}
+
+pub put-then : {text more before between after : List ℕ} {used used′ used″ : ℕ} → Put text before used between used′
+    → Put more between used′ after used″ → Put (text ++ more) before used after used″
+put-then {text} {more} {before} {between} {after} {used} p q = record {
+  count = let m = p .count in let n = q .count in let k = length-append text more in omega arith;
+  stands = q .stands ∙ ap (λ (r : List ℕ). r ++ more) (p .stands) ∙ append-assoc (take used before) text more;
+  same-length = q .same-length ∙ p .same-length;
+}
+
+-- The next of the bytes that are put.
+pub put-next : (bytes : List ℕ) (i : ℕ) {before after : List ℕ} {used : ℕ} → Put (take i bytes) before used after (used + i) → i < length bytes
+    → used + i < length after → Put (take (i + 1) bytes) before used (set after (used + i) (getD bytes i 0)) (used + (i + 1))
+put-next bytes i {before} {after} {used} p l m =
+    subst (λ (text : List ℕ). Put text before used (set after (used + i) (getD bytes i 0)) (used + (i + 1)))
+    (sym (ap (λ (n : ℕ). take n bytes) (one-more i) ∙ take-suc bytes i 0 l))
+    (subst (Put _ before used _) (add-assoc used i 1) (put-byte (getD bytes i 0) p m))
+
+pub put-all : (bytes : List ℕ) (i : ℕ) {used used′ : ℕ} {before after : List ℕ} → length bytes ≤ i → Put (take i bytes) before used after used′
+    → Put bytes before used after used′
+put-all bytes i {used} {used′} {before} {after} l p = subst (λ (text : List ℕ). Put text before used after used′) (take-all i bytes l) p
+
+-- A number and a byte, where the digits are the fewest that hold the number.
+pub record Numbered (before : List ℕ) (used : ℕ) (between : List ℕ) (at n behind : ℕ) : Type 0 where
+  pub inside : at < length between
+  pub put : Put (number-and n behind) before used (set between at behind) (at + 1)
+  pub short : at + 1 ≤ used + 21
+
+pub numbered : (digits : List ℕ) (k n behind : ℕ) {before between : List ℕ} {used at : ℕ} → n < 2 ^ 64 → k ≤ length digits
+    → Fewest 10 1 n k → take k digits ≡ Digits·digits 10 k n → used + 21 ≤ length before → Put (take k digits) before used between at
+    → Numbered before used between at n behind
+numbered digits k n behind {before} {between} {used} {at} e l f d r p = record {
+  inside = inside;
+  put = subst (λ (text : List ℕ). Put (text ++ (behind ∷ [])) before used (set between at behind) (at + 1)) (d ∙ decimal-digits n k f)
+      (put-byte behind p inside);
+  short = let c = p .count in let t = length-take-le k digits l in let m = twenty-digits n k e f in omega arith;
+}
+  where
+    inside : at < length between
+    inside = let c = p .count in let s = p .same-length in let t = length-take-le k digits l in let m = twenty-digits n k e f in omega arith
+
+-- What lending the beginning of a block asks.
+pub counts-of : (n : ℕ) (block : List ℕ) → n ≤ length block → Counts n block
+counts-of n block l = (l, sym (length-take-le n block l))

@@ -1,0 +1,107 @@
+// Lines of standard input. 01: they end at a newline; "A last line without newline counts if it has a byte".
+
+ghost use mathlib.Core.Path.{_≡_};
+ghost use Rattle.lines.specs.Input.{Inside, Nexts, Took};
+
+// The bytes of the lent block from `at` to `end` are read and not yet taken. A block of one byte takes nothing behind a newline.
+pub struct Input {
+    pub at: usize,
+    pub end: usize,
+}
+
+enum Next {
+    Byte { byte: u8, input: Input },
+    End,
+}
+
+pub enum Line {
+    None,
+    Ended { length: usize, input: Input },
+    // The column is full and no newline has come yet.
+    Full { input: Input },
+}
+
+impl Input {
+    pub fn start() -> Input
+        ensures { λ r. ⌜ r ≡ record { at = 0; end = 0 } ⌝ }
+    {
+        Input { at: 0, end: 0 }
+    }
+}
+
+fn take_byte(block: &mut [u8], input: Input) -> Next
+    requires { ⌜ Inside input (now block) ⌝ }
+    ensures { λ r. ⌜ Nexts r (now (block .exit)) ⌝ }
+{
+    let at = input.at;
+    if at < input.end {
+        return Next::Byte {
+            byte: block[at],
+            input: Input {
+                at: at + 1,
+                end: input.end,
+            },
+        };
+    }
+    let got = libc::read(0, block);
+    let end = io::count(got, block);
+    if end == 0 {
+        return Next::End;
+    }
+    Next::Byte {
+        byte: block[0],
+        input: Input { at: 1, end },
+    }
+}
+
+// The next line, as far as the column holds it; its newline is taken and not stored.
+pub fn take_line(block: &mut [u8], input: Input, column: &mut [u8]) -> Line
+    requires { ⌜ Inside input (now block) ⌝ }
+    ensures { λ r. ⌜ Took r (now (block .exit)) (now (column .exit)) ⌝ }
+{
+    let mut input = input;
+    let mut length = 0;
+    while length < column.len() {
+        let Next::Byte {
+            byte,
+            input: behind,
+        } = take_byte(block, input)
+        else {
+            if length == 0 {
+                return Line::None;
+            }
+            return Line::Ended { length, input };
+        };
+        input = behind;
+        if byte == b'\n' {
+            return Line::Ended { length, input };
+        }
+        column[length] = byte;
+        length += 1;
+    }
+    Line::Full { input }
+}
+
+// Behind the rest of a line. A proved loop has to end, and nothing says that a line does: the turns are more than a run has.
+pub fn rest(block: &mut [u8], input: Input) -> Input
+    requires { ⌜ Inside input (now block) ⌝ }
+    ensures { λ r. ⌜ Inside r (now (block .exit)) ⌝ }
+{
+    let mut input = input;
+    let mut turns = u64::MAX;
+    while turns > 0 {
+        let Next::Byte {
+            byte,
+            input: behind,
+        } = take_byte(block, input)
+        else {
+            return input;
+        };
+        input = behind;
+        if byte == b'\n' {
+            return input;
+        }
+        turns -= 1;
+    }
+    input
+}

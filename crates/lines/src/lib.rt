@@ -1,0 +1,4 @@
+// Lines from standard input and lines to standard output, by way of blocks that the caller lends.
+
+pub mod input;
+pub mod output;

@@ -1,0 +1,106 @@
+use Rattle.lines.proofs.Putting.{counts-of}
+use Rattle.site.proofs.Making.{built-within}
+use native.Mathlib.Omega.{arith}
+use borrow.Author.Needs.{needs}
+use Rattle.listing.proofs.list.Statement.{statement}
+use Rattle.listing.proofs.list.Tie as tie
+
+slice-aggregate-automaton : tie.Need-slice-aggregate-automaton
+slice-aggregate-automaton c = search needs
+
+slice-aggregate-automaton-2 : tie.Need-slice-aggregate-automaton-2
+slice-aggregate-automaton-2 c = search needs
+
+slice-aggregate-automaton-3 : tie.Need-slice-aggregate-automaton-3
+slice-aggregate-automaton-3 c = search needs
+
+slice-aggregate-automaton-4 : tie.Need-slice-aggregate-automaton-4
+slice-aggregate-automaton-4 c = search needs
+
+slice-aggregate-automaton-5 : tie.Need-slice-aggregate-automaton-5
+slice-aggregate-automaton-5 c = search needs
+
+slice-aggregate-automaton-6 : tie.Need-slice-aggregate-automaton-6
+slice-aggregate-automaton-6 c = search needs
+
+slice-aggregate-automaton-7 : tie.Need-slice-aggregate-automaton-7
+slice-aggregate-automaton-7 c = search needs
+
+slice-aggregate-automaton-8 : tie.Need-slice-aggregate-automaton-8
+slice-aggregate-automaton-8 c = search needs
+
+automaton-requires : tie.Need-automaton-requires
+automaton-requires c κs = search needs
+
+enum-known-number : tie.Need-enum-known-number
+enum-known-number c = search needs
+
+refused-requires : tie.Need-refused-requires
+refused-requires c κs = search needs
+
+enum-known-state-count : tie.Need-enum-known-state-count
+enum-known-state-count c = search needs
+
+slice-aggregate-arcs : tie.Need-slice-aggregate-arcs
+slice-aggregate-arcs c = search needs
+
+slice-aggregate-arcs-2 : tie.Need-slice-aggregate-arcs-2
+slice-aggregate-arcs-2 c = search needs
+
+slice-aggregate-arcs-3 : tie.Need-slice-aggregate-arcs-3
+slice-aggregate-arcs-3 c = search needs
+
+arcs-requires : tie.Need-arcs-requires
+arcs-requires c κs =
+    let made = c .before .before .before .before .before .before .before .before .before .before .before .before .before .before .before .automaton in
+    let within = built-within (c .before .before .before .before .before .state-count .given .1) (made .ensures) in
+    (omega (arith, c .before .before .before .before .before .before .before .before .before .before .before .before .before .before .before .before .before .before .before .before .before .before .before .before .before .before .pre), omega (arith, within .1, made .kept .1 .1 .1 .1 .1 .1 .0), omega (arith, within .1, made .kept .1 .1 .1 .1 .1 .1 .1 .1 .0), omega (arith, within .1, made .kept .1 .1 .1 .1 .1 .1 .1 .0))
+
+slice-aggregate-states : tie.Need-slice-aggregate-states
+slice-aggregate-states c = search needs
+
+states-requires : tie.Need-states-requires
+states-requires c κs =
+    let made = c .before .before .before .before .before .before .before .before .before .before .before .before .before .before .before .before .before .before .before .before .automaton in
+    let printed = c .before .before .before .before .arcs in
+    let within = built-within (c .before .before .before .before .before .before .before .before .before .before .state-count .given .1) (made .ensures) in
+    (omega (arith, c .before .before .before .before .before .before .before .before .before .before .before .before .before .before .before .before .before .before .before .before .before .before .before .before .before .before .before .before .before .before .before .pre, printed .kept .0), omega (arith, printed .kept .0, printed .ensures), omega (arith, within .0, made .kept .1 .1 .1 .1 .1 .0))
+
+same-length : tie.Need-same-length
+same-length c = search needs
+
+returns : tie.Need-returns
+returns c = counts-of _ _ (omega (arith, c .before .before .refused .ensures .1, c .before .before .refused .kept .0, c .before .before .before .before .before .before .before .before .before .before .before .before .before .before .before .before .before .before .before .before .before .before .before .before .before .before .pre))
+
+same-length-2 : tie.Need-same-length-2
+same-length-2 c = search needs
+
+returns-2 : tie.Need-returns-2
+returns-2 c = counts-of _ _ (omega (arith, c .before .before .states .ensures, c .before .before .states .kept .0))
+
+pub list-spec : {M : Type 1} → statement M
+list-spec =
+    tie.close
+    (tie.spec
+    slice-aggregate-automaton
+    slice-aggregate-automaton-2
+    slice-aggregate-automaton-3
+    slice-aggregate-automaton-4
+    slice-aggregate-automaton-5
+    slice-aggregate-automaton-6
+    slice-aggregate-automaton-7
+    slice-aggregate-automaton-8
+    automaton-requires
+    enum-known-number
+    refused-requires
+    enum-known-state-count
+    slice-aggregate-arcs
+    slice-aggregate-arcs-2
+    slice-aggregate-arcs-3
+    arcs-requires
+    slice-aggregate-states
+    states-requires
+    same-length
+    returns
+    same-length-2
+    returns-2)
