@@ -1,15 +1,14 @@
 -- One meeting more in the columns: the state that it leads to, found or new, and the arc. Assumes nothing.
-use Prim.Native.Nat.{ℕ, zero, suc, _+_, _-_, _≤_, _<_}
-use native.Mathlib.Nat.{le-refl, lt-of-lt-of-le, le-trans, le-of-eq, lt-irrefl}
+use Prim.Native.Nat.{ℕ, suc, _+_, _-_, _≤_, _<_}
 use native.Mathlib.Decide.{ℕ-discrete}
 use native.Mathlib.Numerals.{add-one}
 use native.Mathlib.Omega.{arith}
 use mathlib.Core.Path.{_≡_, refl, sym, ap, ap₂, _∙_, subst}
-use mathlib.Core.Logic.{_⊎_, inl, inr}
-use mathlib.Core.Bool.{Bool, true, false, cond}
-use mathlib.Core.List.{List, [], _∷_, _++_, map, map-append, append-assoc, List·Memᴰ, Memᴰ·cast}
-use lib.ListN.{length, getD, set, replicate, length-append, length-map, length-set, length-replicate, List·getD-append}
-use lib.Seq.{getD-set-same, getD-set-other, set-append-seam, append-snoc, getD-append-seam, getD-at}
+use mathlib.Core.Logic.{inl, inr}
+use mathlib.Core.Bool.{cond}
+use mathlib.Core.List.{List, [], _∷_, _++_, map, map-append, List·Memᴰ, Memᴰ·cast}
+use lib.ListN.{length, getD, set, length-append, length-map, length-set, List·getD-append}
+use lib.Seq.{getD-set-same, getD-set-other, set-append-seam, append-snoc, getD-at}
 use Rattle.theory.specs.Expression.{Expression, ∅, same}
 use Rattle.theory.specs.Distinct.{place}
 use Rattle.theory.specs.Derivative.{empty-word}
@@ -18,12 +17,10 @@ use Rattle.theory.specs.Column.{zeros, filled}
 use Rattle.theory.specs.Table.{Table, tree-at}
 use Rattle.theory.specs.Build.{Lent, lent, Names}
 use Rattle.theory.proofs.Distinct.{getD-member, at-place, place-below}
-use Rattle.theory.proofs.Meetings.{Meeting, meeting, meetings, so-far, so-far-known, so-far-new}
+use Rattle.theory.proofs.Meetings.{Meeting, meeting, so-far, so-far-known, so-far-new}
 use Rattle.theory.proofs.Nearing.{Starts, state-number, states-enough, arcs-more}
-use Rattle.theory.proofs.States.{Begins}
-use Rattle.derive.specs.Rows.{Rows}
 use Rattle.derive.proofs.Growing.{rows-differ}
-use Rattle.builder.specs.Progress.{Progress, Roomy, Exceeds, FirstEqual}
+use Rattle.builder.specs.Progress.{Progress, Exceeds, FirstEqual}
 use Rattle.builder.specs.declared.arcs.Counts.{Counts}
 
 -- ---- Columns with zero beyond

@@ -1,10 +1,10 @@
 -- All states left: what the columns then hold is the automaton, and the counts are its needs. Assumes nothing.
-use Prim.Native.Nat.{ℕ, zero, suc, _+_, _≤_, _<_, min}
-use native.Mathlib.Nat.{le-refl, le-step, le-antisymm, lt-of-lt-of-le, lt-irrefl}
+use Prim.Native.Nat.{ℕ, zero, suc, _<_}
+use native.Mathlib.Nat.{le-refl, le-step}
 use native.Mathlib.Omega.{arith}
-use mathlib.Core.Path.{_≡_, refl, sym, ap, ap₂, _∙_, subst}
+use mathlib.Core.Path.{_≡_, sym, ap, ap₂, _∙_, subst}
 use mathlib.Core.Bool.{cond}
-use mathlib.Core.Logic.{_⊎_, inl, inr, ⊎-elim}
+use mathlib.Core.Logic.{⊎-elim}
 use mathlib.Core.List.{List, [], _∷_, _++_, map, map-map, flatMap, List·Memᴰ, List·Memᴰ·cases-cons, List·Memᴰ·append-cases, List·Memᴰ·eq-of-singleton, List·Memᴰ·not-nil, Memᴰ·append-left, Memᴰ·append-right}
 use lib.ListN.{length, getD, length-map}
 use Rattle.theory.specs.Expression.{Expression, same, ∅, ε, letter, binary, star, parts}
@@ -17,12 +17,12 @@ use Rattle.theory.specs.Build.{Lent, Names, Holds, Stands}
 use Rattle.theory.proofs.Distinct.{getD-member, no-longer, distinct-of, distinct-no-repeats, place-below, at-place}
 use Rattle.theory.proofs.Members.{flatMap-of}
 use Rattle.theory.proofs.Trees.{trees-length, to-trees}
-use Rattle.theory.proofs.Sound.{letter-tree, sign-tree, star-tree}
-use Rattle.theory.proofs.Meetings.{Meeting, meetings, so-far, states-met, arcs-met, to-arc}
+use Rattle.theory.proofs.Sound.{sign-tree}
+use Rattle.theory.proofs.Meetings.{Meeting, meetings, states-met, arcs-met, to-arc}
 use Rattle.derive.specs.Rows.{Rows}
 use Rattle.builder.specs.Progress.{Progress}
-use Rattle.builder.specs.Complete.{SameLengths}
 use Rattle.builder.specs.declared.arcs.Counts.{Counts}
+use Rattle.builder.proofs.Lengths.{SameLengths}
 
 -- ---- Every part of a row's tree is a row's tree
 

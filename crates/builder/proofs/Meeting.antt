@@ -1,8 +1,8 @@
 -- What `meet` gives, way by way. Leans on `Adding`. Assumes nothing.
 use Prim.Native.Nat.{ℕ, _+_, _≤_, _<_}
-use native.Mathlib.Nat.{lt-of-lt-of-le, le-trans, le-of-eq}
+use native.Mathlib.Nat.{lt-of-lt-of-le}
 use native.Mathlib.Omega.{arith}
-use mathlib.Core.Path.{_≡_, refl, sym, ap, _∙_, subst}
+use mathlib.Core.Path.{_≡_, refl, sym, subst}
 use mathlib.Core.Bool.{cond}
 use mathlib.Core.List.{List}
 use lib.ListN.{length, set, length-set}
@@ -10,10 +10,10 @@ use Rattle.theory.specs.Derivative.{empty-word}
 use Rattle.theory.specs.Table.{Table, tree-at}
 use Rattle.derive.specs.Rows.{Rows, SoundTo}
 use Rattle.theory.specs.Build.{Lent, lent}
-use Rattle.builder.specs.Progress.{Progress, Roomy, Ready, Meets, Met, FirstEqual}
+use Rattle.builder.specs.Progress.{Roomy, Ready, Meets, Met, FirstEqual}
 use Rattle.builder.specs.declared.arcs.Counts.{Counts}
 use Rattle.builder.specs.declared.arcs.Went.the-variants.{On, NoRoom}
-use Rattle.builder.proofs.Adding.{with-arc, with-state, known-added, new-added, new-exceeds, arc-exceeds}
+use Rattle.builder.proofs.Adding.{known-added, new-added, new-exceeds, arc-exceeds}
 
 -- A row that is used, and all before it, are as 01's table of kinds has them.
 pub row-sound : {t : Table} {n i : ℕ} → Rows t n → i < n → SoundTo t i

@@ -1,20 +1,20 @@
 -- What `build` owes, way by way: columns that differ, a table that is refused, a room that is exceeded, the automaton. Assumes nothing.
-use Prim.Native.Nat.{ℕ, _≤_, _<_, min}
-use native.Mathlib.Nat.{min-le-left, min-le-right, le-trans}
+use Prim.Native.Nat.{ℕ, _≤_, min}
+use native.Mathlib.Nat.{min-le-left, min-le-right}
 use native.Mathlib.Omega.{arith}
 use mathlib.Core.Path.{_≡_, refl, sym, ap, _∙_, subst}
-use mathlib.Core.Bool.{Bool, true, false, cond, false≢true}
-use mathlib.Core.Logic.{_⊎_, inl, inr, ⊎-elim}
+use mathlib.Core.Bool.{Bool, true, false, cond}
+use mathlib.Core.Logic.{inl, inr}
 use mathlib.Core.List.{List}
 use lib.ListN.{length, length-replicate}
-use borrow.Author.Tests.{ne-eqb, eq-eqb}
-use Rattle.theory.specs.Expression.{Expression}
-use Rattle.theory.specs.Refusal.{Refusal, refusal, success, or-else, columns-differ, room-small}
+use borrow.Author.Tests.{ne-eqb}
+use Rattle.theory.specs.Refusal.{Refusal, refusal, success, columns-differ, room-small}
 use Rattle.theory.specs.Column.{zeros}
 use Rattle.theory.specs.Table.{Table, tree, table-refusal}
 use Rattle.theory.specs.Automaton.{states, arcs, expressions}
 use Rattle.theory.specs.Build as Build
-use Rattle.theory.specs.Build.{Lent, Cleared, even, over-room, build-refusal, counts}
+use Rattle.theory.specs.Build.{Lent, Cleared, even, over-room, build-refusal}
+use Rattle.theory.proofs.Meetings.{meetings}
 use Rattle.theory.proofs.Answers.{counts-built, counts-refused}
 use Rattle.theory.proofs.Tests.{false-of}
 use Rattle.theory.proofs.Room.{OverRoom, of-expressions, of-states, of-arcs, even-passed, over-found, over-passes, refusal-by}
@@ -22,11 +22,11 @@ use Rattle.table.specs.Checked.{Scanned, refusal-of}
 use Rattle.table.specs.declared.Checked.{Checked}
 use Rattle.table.specs.declared.Checked.the-variants as Checks
 use Rattle.builder.specs.Answer.{answer}
-use Rattle.builder.specs.Progress.{Progress, Roomy, Exceeds, Blank}
-use Rattle.builder.specs.Complete.{SameLengths, Whole, Short, Completes, Completed}
-use Rattle.builder.specs.declared.Building.{Building}
+use Rattle.builder.specs.Progress.{Progress, Roomy, Exceeds}
 use Rattle.builder.specs.declared.Building.the-variants.{Refused, Built}
 use Rattle.builder.specs.declared.arcs.Counts.{Counts}
+use Rattle.builder.proofs.Lengths.{SameLengths}
+use Rattle.builder.proofs.Starting.{Blank}
 use Rattle.builder.proofs.Finishing.{all-states, all-rows, all-arcs, stands}
 
 -- ---- Cleared columns
@@ -103,6 +103,10 @@ cleared-blank {c} {c′} e h q =
 refused-not-fine : {number place : ℕ} → Checks.Refused number place ≡ Checks.Fine → ⊥
 refused-not-fine e = let z : _≡_ {A = ℕ} 0 1 = cc in omega arith
 
+-- The refusals that come before the rooms'.
+abbrev before-room : Table → Lent → Refusal
+before-room g c = cond (even c) (table-refusal g) (refusal columns-differ 0)
+
 module _ {g : Table} {c c′ : Lent} where
   refuses : (r : Refusal) → build-refusal g c ≡ r → (r .number ≡ 0 → ⊥) → Cleared c c′
       → Build.Built g c (record { refusal = r; states = 0; expressions = 0; arcs = 0 }) c′
@@ -114,83 +118,61 @@ module _ {g : Table} {c c′ : Lent} where
         stands = λ z. absurd (no-zero z);
       }
 
-  pub built-uneven : even c ≡ false → Cleared c c′ → Build.Built g c (answer (Refused 1 0)) c′
-  built-uneven e h = refuses (refusal columns-differ 0) (refusal-by g c e refl refl) (λ z. omega arith) h
-
-  pub built-table : {r : Checked} {number place : ℕ} → even c ≡ true → Scanned r (table-refusal g) → r ≡ Checks.Refused number place → Cleared c c′
+  -- 01's first refusals: of the lent columns, then of the table.
+  pub built-refused : {r : Checked} {number place : ℕ} → Scanned r (before-room g c) → r ≡ Checks.Refused number place → Cleared c c′
       → Build.Built g c (answer (Refused number place)) c′
-  built-table {r} {number} {place} e s q h =
-      let t : table-refusal g ≡ refusal number place = sym (s .is) ∙ ap refusal-of q in
-      let n : number ≡ 0 → ⊥ = λ z. refused-not-fine (sym q ∙ s .fine (ap (λ (w : Refusal). w .number) t ∙ z)) in
-      refuses (refusal number place) (refusal-by g c e t refl ∙ ap (λ (b : Bool). cond b (cond (over-room (tree g) c) (refusal room-small 0) success) (refusal number place)) (ne-eqb number 0 n)) n h
+  built-refused {r} {number} {place} s q h =
+      let w : before-room g c ≡ refusal number place = sym (s .is) ∙ ap refusal-of q in
+      let n : number ≡ 0 → ⊥ = λ z. refused-not-fine (sym q ∙ s .fine (ap (λ (v : Refusal). v .number) w ∙ z)) in
+      refuses (refusal number place) (by (even c) refl w n) n h
+    where
+      by : (b : Bool) → even c ≡ b → before-room g c ≡ refusal number place → (number ≡ 0 → ⊥) → build-refusal g c ≡ refusal number place
+      by true e w n =
+          refusal-by g c e (ap (λ (b : Bool). cond b (table-refusal g) (refusal columns-differ 0)) (sym e) ∙ w) refl
+          ∙ ap (λ (b : Bool). cond b (cond (over-room (tree g) c) (refusal room-small 0) success) (refusal number place)) (ne-eqb number 0 n)
+      by false e w n = refusal-by g c e refl refl ∙ ap (λ (b : Bool). cond b (table-refusal g) (refusal columns-differ 0)) (sym e) ∙ w
+
+pub passed : (g : Table) (c : Lent) {r : Checked} → Scanned r (before-room g c) → r ≡ Checks.Fine → (even c ≡ true) × (table-refusal g ≡ success)
+passed g c s f = by (even c) refl (sym (s .is) ∙ ap refusal-of f)
+  where
+    by : (b : Bool) → even c ≡ b → before-room g c ≡ success → (even c ≡ true) × (table-refusal g ≡ success)
+    by true e w = (e, ap (λ (b : Bool). cond b (table-refusal g) (refusal columns-differ 0)) (sym e) ∙ w)
+    by false e w =
+        let z : _≡_ {A = ℕ} 1 0 = ap (λ (v : Refusal). v .number) (ap (λ (b : Bool). cond b (table-refusal g) (refusal columns-differ 0)) (sym e) ∙ w) in
+        absurd (omega arith)
 
 -- ---- The table is fine
 
-lengths-after : {c c₁ c′ : Lent} → SameLengths c c₁ → SameLengths c₁ c′ → SameLengths c c′
-lengths-after h k =
-    record {
-      kind = k .kind ∙ h .kind;
-      left = k .left ∙ h .left;
-      right = k .right ∙ h .right;
-      expression = k .expression ∙ h .expression;
-      accepting = k .accepting ∙ h .accepting;
-      from = k .from ∙ h .from;
-      letter = k .letter ∙ h .letter;
-      to = k .to ∙ h .to;
-    }
+module _ (g : Table) {c c₁ : Lent} {rooms : Counts} (fine : (even c ≡ true) × (table-refusal g ≡ success)) (h : Cleared c c₁) (q : rooms ≡ rooms-of c₁) where
+  rooms-before : rooms ≡ rooms-of c
+  rooms-before =
+      let l = cleared-lengths h in
+      q ∙ (λ i. record { rows = min (l .kind i) 65535; states = min (l .expression i) 65535; arcs = min (l .from i) 16777216 })
 
-module _ (g : Table) {c : Lent} {rooms : Counts} (e : even c ≡ true) (t : table-refusal g ≡ success) (q : rooms ≡ rooms-of c) where
-  over : Exceeds (tree g) (rooms-of c) → OverRoom (tree g) c
-  over (inl l) = of-expressions l
-  over (inr (inl l)) = of-states l
-  over (inr (inr l)) = of-arcs l
+  pub built-short : {c′ : Lent} → Exceeds (tree g) rooms → Cleared c c′ → Build.Built g c (answer (Refused 9 0)) c′
+  built-short exceeds cleared =
+      refuses (refusal room-small 0) (refusal-by g c (fine .0) (fine .1) (over-passes (tree g) c (over (subst (Exceeds (tree g)) rooms-before exceeds))))
+      (λ z. omega arith) cleared
+    where
+      over : Exceeds (tree g) (rooms-of c) → OverRoom (tree g) c
+      over (inl l) = of-expressions l
+      over (inr (inl l)) = of-states l
+      over (inr (inr l)) = of-arcs l
 
-  built-short : {c′ : Lent} → Short (tree g) rooms c c′ → Build.Built g c (answer (Refused 9 0)) c′
-  built-short h =
-      refuses (refusal room-small 0) (refusal-by g c e t (over-passes (tree g) c (over (subst (Exceeds (tree g)) q (h .exceeds))))) (λ z. omega arith)
-      (h .cleared)
-
-  module _ {c′ : Lent} {k : Counts} (h : Whole (tree g) rooms k c c′) where
+  module _ {c′ : Lent} {k : Counts} (p : Progress (tree g) (meetings (tree g)) c′ k) (o : Roomy c′ rooms k) where
     fits : OverRoom (tree g) c → ⊥
-    fits (of-expressions l) = omega (arith, l, h .roomy .rows-fit, ap (λ (r : Counts). r .rows) q, all-rows (h .progress))
-    fits (of-states l) = omega (arith, l, h .roomy .states-fit, ap (λ (r : Counts). r .states) q, all-states (h .progress))
-    fits (of-arcs l) = omega (arith, l, h .roomy .arcs-fit, ap (λ (r : Counts). r .arcs) q, all-arcs (h .progress))
+    fits (of-expressions l) = omega (arith, l, o .rows-fit, ap (λ (r : Counts). r .rows) rooms-before, all-rows p)
+    fits (of-states l) = omega (arith, l, o .states-fit, ap (λ (r : Counts). r .states) rooms-before, all-states p)
+    fits (of-arcs l) = omega (arith, l, o .arcs-fit, ap (λ (r : Counts). r .arcs) rooms-before, all-arcs p)
 
-    built-whole : Build.Built g c (answer (Built (k .states) (k .rows) (k .arcs))) c′
-    built-whole =
+    pub built-whole : SameLengths c c′ → Build.Built g c (answer (Built (k .states) (k .rows) (k .arcs))) c′
+    built-whole lengths =
         let z : (build-refusal g c) .number ≡ 0 =
-        ap (λ (r : Refusal). r .number) (refusal-by g c e t (false-of (over-room (tree g) c) (λ o. fits (over-found (tree g) c o)))) in
+        ap (λ (r : Refusal). r .number) (refusal-by g c (fine .0) (fine .1) (false-of (over-room (tree g) c) (λ o. fits (over-found (tree g) c o)))) in
         record {
           answers =
-              (λ i.
-              record {
-                refusal = success;
-                states = all-states (h .progress) i;
-                expressions = all-rows (h .progress) i;
-                arcs = all-arcs (h .progress) i;
-              })
+              (λ i. record { refusal = success; states = all-states p i; expressions = all-rows p i; arcs = all-arcs p i })
               ∙ sym (counts-built g c z);
           refused = λ n. absurd (n z);
-          stands = λ _. stands (h .progress) (h .lengths);
+          stands = λ _. stands p lengths;
         }
-
-pub fine-success : (g : Table) {r : Checked} → Scanned r (table-refusal g) → r ≡ Checks.Fine → table-refusal g ≡ success
-fine-success g s f = sym (s .is) ∙ ap refusal-of f
-
-pub built-completed : {g : Table} {c c₁ c′ : Lent} {rooms : Counts} (r : Building) → even c ≡ true → table-refusal g ≡ success → Cleared c c₁
-    → rooms ≡ rooms-of c₁ → Completed (tree g) rooms r c₁ c′ → Build.Built g c (answer r) c′
-built-completed {g} {c} {c₁} {c′} {rooms} r e t h q done = go r (done .gives)
-  where
-    before : SameLengths c c₁
-    before = cleared-lengths h
-
-    rooms-before : rooms ≡ rooms-of c
-    rooms-before =
-        q ∙ (λ i. record { rows = min (before .kind i) 65535; states = min (before .expression i) 65535; arcs = min (before .from i) 16777216 })
-
-    go : (r : Building) → Completes (tree g) rooms r c₁ c′ → Build.Built g c (answer r) c′
-    go (Refused number place) (f, short) =
-        subst (λ (w : Refusal). Build.Built g c (record { refusal = w; states = 0; expressions = 0; arcs = 0 }) c′) (sym f)
-        (built-short g e t rooms-before (record { exceeds = short .exceeds; cleared = cleared-as before (short .cleared) }))
-    go (Built states expressions arcs) whole =
-        built-whole g e t rooms-before (record { progress = whole .progress; roomy = whole .roomy; lengths = lengths-after before (whole .lengths) })

@@ -1,7 +1,6 @@
 -- The letters that a table uses: the marks on the way, and the search for the next. Assumes nothing.
-use Prim.Native.Nat.{ℕ, suc, _+_, _≤_, _<_}
+use Prim.Native.Nat.{ℕ, _+_, _≤_, _<_}
 use native.Mathlib.Decide.{ℕ-discrete}
-use native.Mathlib.Nat.{eq-or-lt-of-le}
 use native.Mathlib.Omega.{arith}
 use mathlib.Core.Path.{_≡_, refl, sym, ap, ap₂, _∙_, subst}
 use mathlib.Core.Bool.{Bool, true, false, _&&_, _||_}
@@ -12,7 +11,8 @@ use lib.Dec.{eqb}
 use borrow.Author.Tests.{eq-eqb, ne-eqb}
 use Rattle.theory.specs.Record.{some-below}
 use Rattle.theory.proofs.Below.{some-more}
-use Rattle.builder.specs.Letters.{uses}
+use Rattle.builder.specs.Letters.{uses, IsNext}
+use Rattle.builder.specs.declared.letters.Next.{Next}
 
 -- Entry j is the letter a.
 abbrev is-letter : List ℕ → List ℕ → ℕ → ℕ → Bool
@@ -75,3 +75,7 @@ module _ {kind left : List ℕ} {used : List Bool} {i : ℕ} (m : Marked kind le
 
 pub marked-as : {kind left : List ℕ} {used used′ : List Bool} {i : ℕ} → used′ ≡ used → Marked kind left used i → Marked kind left used′ i
 marked-as {kind} {left} {i = i} e m = subst (λ u. Marked kind left u i) (sym e) m
+
+-- The answer, told by a match.
+pub next-as : (used : ℕ → Bool) (a : ℕ) {n n′ : Next} → n ≡ n′ → IsNext used a n → IsNext used a n′
+next-as used a q h = subst (IsNext used a) q h

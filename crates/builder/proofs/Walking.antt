@@ -1,27 +1,26 @@
 -- The members of the derivative of a state by a letter, met one by one. Assumes nothing.
-use Prim.Native.Nat.{ℕ, zero, suc, _+_, _-_, _≤_, _<_}
-use native.Mathlib.Nat.{le-refl, lt-of-lt-of-le, le-trans, le-of-eq}
+use Prim.Native.Nat.{ℕ, suc, _-_, _≤_, _<_}
+use native.Mathlib.Nat.{lt-of-lt-of-le, le-trans, le-of-eq}
 use native.Mathlib.Omega.{arith}
 use mathlib.Core.Path.{_≡_, refl, sym, ap, ap₂, _∙_, subst}
-use mathlib.Core.Logic.{_⊎_, inl, inr, ⊎-elim}
-use mathlib.Core.Option.{Option, none, some}
+use mathlib.Core.Logic.{inl, ⊎-elim}
 use mathlib.Core.List.{List, [], _∷_, _++_, map, map-append, append-assoc, append-nil, List·Memᴰ, List·Memᴰ·head, Memᴰ·cast, Memᴰ·append-right, List·Memᴰ·cases-cons, List·Memᴰ·not-nil}
-use lib.ListN.{length, getD, take, drop, length-append, take-append-drop, List·getD-append}
+use lib.ListN.{length, getD, take, length-append, List·getD-append}
 use lib.Seq.{take-append-seam}
 use Rattle.theory.specs.Expression.{Expression, ∅, same, parts}
 use Rattle.theory.specs.Distinct.{distinct, NoRepeats, Within}
 use Rattle.theory.specs.Derivative.{derivative}
-use Rattle.theory.specs.Automaton.{states, expressions, successors, alphabet, Derived}
+use Rattle.theory.specs.Automaton.{states, expressions, successors, Derived}
 use Rattle.theory.specs.Table.{Table, trees, tree-at}
-use Rattle.theory.specs.Build.{Lent, lent, Names}
+use Rattle.theory.specs.Build.{Lent, lent}
 use Rattle.theory.proofs.Distinct.{no-longer, getD-member}
 use Rattle.theory.proofs.Derivative.{derivative-no-repeats}
 use Rattle.theory.proofs.Accepts.Arcs.{to-alphabet}
 use Rattle.theory.proofs.Members.{to-flatMap}
 use Rattle.theory.proofs.Meetings.{Meeting, meeting, meetings, before, so-far, so-far-begins, before-letter}
-use Rattle.theory.proofs.Nearing.{Starts, starts-before, starts-member, states-begin, states-enough, parts-needed}
+use Rattle.theory.proofs.Nearing.{Starts, starts-before, starts-member, states-begin, parts-needed}
 use Rattle.theory.proofs.States.{states-derived, derived-states}
-use Rattle.derive.specs.Rows.{Rows, Grown, Needed, Short}
+use Rattle.derive.specs.Rows.{Grown, Needed, Short}
 use Rattle.derive.specs.Walk.{to-come, In-list, Steps, Gives, first-of, behind}
 use Rattle.derive.specs.declared.walk.Stepped.{Stepped}
 use Rattle.derive.specs.declared.walk.Stepped.the-variants.{Found, End}
@@ -29,7 +28,7 @@ use Rattle.derive.specs.declared.walk.Place.{Place}
 use Rattle.derive.specs.declared.walk.Place.the-variants.{Start, Behind}
 use Rattle.derive.proofs.Growing.{grown-tree}
 use Rattle.derive.proofs.Listing.{first-some, first-none, behind-second, behind-head}
-use Rattle.builder.specs.Progress.{Progress, Roomy, Exceeds, Ready, Meets, Met, Leaves, met-so-far, next-met, root}
+use Rattle.builder.specs.Progress.{Progress, Roomy, Exceeds, Ready, Meets, Met, met-so-far, next-met, root}
 use Rattle.builder.specs.declared.arcs.Counts.{Counts}
 use Rattle.builder.specs.declared.arcs.Went.{Went}
 use Rattle.builder.specs.declared.arcs.Went.the-variants.{On, NoRoom}
@@ -42,21 +41,18 @@ unfolding so-far distinct
 so-far-first e done = (omega arith, refl)
 
 -- State 0 is the given expression.
-pub root-is : {e : Expression} {done : List Meeting} {c : Lent} {k : Counts} → Progress e done c k → root c ≡ e
+root-is : {e : Expression} {done : List Meeting} {c : Lent} {k : Counts} → Progress e done c k → root c ≡ e
 root-is {e} {done} p = p .named .named 0 (so-far-first e done .0) ∙ so-far-first e done .1
 
-pub starts-take : {e : Expression} {done : List Meeting} → Starts e done → take (length done) (meetings e) ≡ done
+starts-take : {e : Expression} {done : List Meeting} → Starts e done → take (length done) (meetings e) ≡ done
 starts-take {done = done} s = ap (take (length done)) (s .goes-on) ∙ take-append-seam done (s .rest)
 
--- Progress as the functions of the builder hand it on.
-pub to-ready : {e : Expression} {done : List Meeting} {c : Lent} {rooms k : Counts} → Starts e done → Progress e done c k → Roomy c rooms k → Ready c rooms k
+-- Progress as `meet` asks for it.
+to-ready : {e : Expression} {done : List Meeting} {c : Lent} {rooms k : Counts} → Starts e done → Progress e done c k → Roomy c rooms k → Ready c rooms k
 to-ready {e} {done} {c} {rooms} {k} s p o =
     let r = root-is p in
     let d : met-so-far c k ≡ done = ap₂ (λ (n : ℕ) x. take n (meetings x)) (p .arc-count) r ∙ starts-take s in
     record { progress = subst (λ x. Progress x (met-so-far c k) c k) (sym r) (subst (λ ms. Progress e ms c k) (sym d) p); roomy = o }
-
-pub of-ready : {c : Lent} {rooms k : Counts} (done : List Meeting) → Ready c rooms k → Starts (root c) done → k .arcs ≡ length done → Progress (root c) done c k
-of-ready {c} {k = k} done h s q = subst (λ ms. Progress (root c) ms c k) (ap (λ (n : ℕ). take n (meetings (root c))) q ∙ starts-take s) (h .progress)
 
 -- ---- Rows that come
 
@@ -106,12 +102,16 @@ roomy-grown o g fits same-length =
 
 -- ---- On the way along a list
 
+-- What is met where these members of the list of state i by the letter a are met.
+abbrev met-at : Expression → ℕ → ℕ → List Expression → List Meeting
+met-at e i a met = before e i (a - 1) ++ map (meeting i a) met
+
 -- State i, the row r, is left by the letter a; the walk stands at `place`, and the members before it are met.
 pub record AtMember (e : Expression) (i a r : ℕ) (rooms : Counts) (place : Place) (c : Lent) (k : Counts) : Type 0 where
   pub met : List Expression
   pub rest : List Expression
   pub split : derivative a (getD (states e) i ∅) ≡ met ++ rest
-  pub progress : Progress e (before e i (a - 1) ++ map (meeting i a) met) c k
+  pub progress : Progress e (met-at e i a met) c k
   pub roomy : Roomy c rooms k
   pub row-in : r < k .rows
   pub row-is : tree-at (c .rows) r ≡ getD (states e) i ∅
@@ -120,6 +120,14 @@ pub record AtMember (e : Expression) (i a r : ℕ) (rooms : Counts) (place : Pla
   pub state : i < k .states
   pub within : i < length (states e)
   pub low : 1 ≤ a
+  pub high : a ≤ 255
+
+-- State i has been left by all letters up to a.
+pub record AtLetter (e : Expression) (i a : ℕ) (rooms : Counts) (c : Lent) (k : Counts) : Type 0 where
+  pub progress : Progress e (before e i a) c k
+  pub roomy : Roomy c rooms k
+  pub state : i < k .states
+  pub within : i < length (states e)
   pub high : a ≤ 255
 
 -- What stands behind a member of a list without repeats.
@@ -131,32 +139,28 @@ behind-split q xs zs once e =
     not-both [] o m = List·Memᴰ·not-nil m
     not-both (u ∷ us) o m = ⊎-elim (λ p. o .0 (Memᴰ·cast (sym p) (Memᴰ·append-right us (List·Memᴰ·head refl)))) (not-both us (o .1)) (List·Memᴰ·cases-cons m)
 
-pub member-first : {c : Lent} {rooms k : Counts} {i a : ℕ} → Ready c rooms k → Leaves c k i a → AtMember (root c) i a (getD (c .expression) i 0) rooms Start c k
-member-first {c} {rooms} {k} {i} {a} h l =
-    let e = root c in
-    let p₀ = h .progress in
-    let many : i < length (so-far e (met-so-far c k)) = subst (λ (n : ℕ). i < n) (p₀ .state-count) (l .state) in
-    let s₀ : Starts e (met-so-far c k) = record { rest = drop (k .arcs) (meetings e); goes-on = sym (take-append-drop (k .arcs) (meetings e)) } in
-    let b = states-begin s₀ in
-    let within : i < length (states e) = lt-of-lt-of-le many (states-enough s₀) in
-    let s = starts-before e i (a - 1) within (omega (arith, l .high)) in
-    let p = of-ready (before e i (a - 1)) h s (l .here) in
+-- At the start of the list.
+pub member-first : {e : Expression} {i a : ℕ} {rooms : Counts} {c : Lent} {k : Counts} → Progress e (before e i (a - 1)) c k → Roomy c rooms k
+    → i < k .states → i < length (states e) → 1 ≤ a → a ≤ 255 → AtMember e i a (getD (c .expression) i 0) rooms Start c k
+member-first {e} {i} {a} {rooms} {c} {k} p o state within low high =
+    let many : i < length (so-far e (before e i (a - 1))) = subst (λ (n : ℕ). i < n) (p .state-count) state in
+    let b = states-begin (starts-before e i (a - 1) within (omega arith)) in
     let is : tree-at (c .rows) (getD (c .expression) i 0) ≡ getD (states e) i ∅ =
-    p₀ .named .named i many ∙ sym (ap (λ xs. getD xs i ∅) (b .goes-on) ∙ List·getD-append (so-far e (met-so-far c k)) (b .rest) ∅ i many) in
+    p .named .named i many ∙ sym (ap (λ xs. getD xs i ∅) (b .goes-on) ∙ List·getD-append (so-far e (before e i (a - 1))) (b .rest) ∅ i many) in
     record {
       met = [];
       rest = derivative a (getD (states e) i ∅);
       split = refl;
       progress = subst (λ ms. Progress e ms c k) (sym (append-nil (before e i (a - 1)))) p;
-      roomy = h .roomy;
-      row-in = p₀ .named .within i many;
+      roomy = o;
+      row-in = p .named .within i many;
       row-is = is;
       standing = tt;
       coming = ap (derivative a) is;
-      state = l .state;
+      state = state;
       within = within;
-      low = l .low;
-      high = l .high;
+      low = low;
+      high = high;
     }
 
 module _ {e : Expression} {i a r : ℕ} {rooms : Counts} {place : Place} {c : Lent} {k : Counts} (m : AtMember e i a r rooms place c k) where
@@ -185,16 +189,16 @@ module _ {e : Expression} {i a r : ℕ} {rooms : Counts} {place : Place} {c : Le
   -- A row comes, or stands already, that is the next member.
   module _ {row n : ℕ} {t : Table} (same-length : length (t .kind) ≡ length (c .rows .kind))
       (s : Steps (c .rows) (k .rows) (rooms .rows) (derivative a (tree-at (c .rows) r)) place (Found row n) t) where
-    grown : Progress e (before e i (a - 1) ++ map (meeting i a) (m .met)) (with-rows c t) (with-count k n)
+    grown : Progress e (met-at e i a (m .met)) (with-rows c t) (with-count k n)
     grown = progress-grown (m .progress) (s .outcome .0) (λ z h. all-needed z (s .outcome .4 z h))
 
-    pub next-of : (ys : List Expression) × (m .rest ≡ tree-at t row ∷ ys)
+    next-of : (ys : List Expression) × (m .rest ≡ tree-at t row ∷ ys)
     next-of = first-some (m .rest) (ap first-of (sym (m .coming)) ∙ s .outcome .3)
 
     met-next : derivative a (getD (states e) i ∅) ≡ (m .met ++ (tree-at t row ∷ [])) ++ next-of .0
     met-next = m .split ∙ ap (λ xs. m .met ++ xs) (next-of .1) ∙ sym (append-assoc (m .met) (tree-at t row ∷ []) (next-of .0))
 
-    starts-next : Starts e ((before e i (a - 1) ++ map (meeting i a) (m .met)) ++ (meeting i a (tree-at t row) ∷ []))
+    starts-next : Starts e (met-at e i a (m .met) ++ (meeting i a (tree-at t row) ∷ []))
     starts-next =
         subst (Starts e)
         (ap (λ (b : ℕ). before e i (a - 1) ++ map (meeting i b) (m .met ++ (tree-at t row ∷ []))) letter-is
@@ -203,10 +207,10 @@ module _ {e : Expression} {i a r : ℕ} {rooms : Counts} {place : Place} {c : Le
         (starts-member e i (a - 1) (m .met ++ (tree-at t row ∷ [])) (next-of .0) (m .within) (omega (arith, letter-is, m .high))
         (ap (λ (b : ℕ). derivative b (getD (states e) i ∅)) letter-is ∙ met-next))
 
-    starts-here : Starts e (before e i (a - 1) ++ map (meeting i a) (m .met))
-    starts-here = starts-less (before e i (a - 1) ++ map (meeting i a) (m .met)) (meeting i a (tree-at t row)) starts-next
+    starts-here : Starts e (met-at e i a (m .met))
+    starts-here = starts-less (met-at e i a (m .met)) (meeting i a (tree-at t row)) starts-next
 
-    next-is : next-met (with-rows c t) (with-count k n) i a row ≡ (before e i (a - 1) ++ map (meeting i a) (m .met)) ++ (meeting i a (tree-at t row) ∷ [])
+    next-is : next-met (with-rows c t) (with-count k n) i a row ≡ met-at e i a (m .met) ++ (meeting i a (tree-at t row) ∷ [])
     next-is =
         ap (λ xs. xs ++ (meeting i a (tree-at t row) ∷ []))
         (ap₂ (λ (j : ℕ) y. take j (meetings y)) (grown .arc-count) (root-is grown) ∙ starts-take starts-here)
@@ -227,12 +231,11 @@ module _ {e : Expression} {i a r : ℕ} {rooms : Counts} {place : Place} {c : Le
     member-full w = subst (λ y. Exceeds y rooms) (root-is grown) (w .goes)
 
     -- And it is met.
-    module _ {k′ : Counts} (column flags f l o : List ℕ)
-        (w : Met (with-rows c t) (with-count k n) rooms i a row (On k′) (lent t column flags f l o)) where
-      after : Progress e ((before e i (a - 1) ++ map (meeting i a) (m .met)) ++ (meeting i a (tree-at t row) ∷ [])) (lent t column flags f l o) k′
+    module _ {k′ : Counts} (c′ : Lent) (w : Met (with-rows c t) (with-count k n) rooms i a row (On k′) (with-rows c′ t)) where
+      after : Progress e (met-at e i a (m .met) ++ (meeting i a (tree-at t row) ∷ [])) (with-rows c′ t) k′
       after =
-          subst (λ ms. Progress e ms (lent t column flags f l o) k′) next-is
-          (subst (λ y. Progress y (next-met (with-rows c t) (with-count k n) i a row) (lent t column flags f l o) k′) (root-is grown) (w .goes .0))
+          subst (λ ms. Progress e ms (with-rows c′ t) k′) next-is
+          (subst (λ y. Progress y (next-met (with-rows c t) (with-count k n) i a row) (with-rows c′ t) k′) (root-is grown) (w .goes .0))
 
       still : tree-at t r ≡ getD (states e) i ∅
       still = grown-tree (s .outcome .0) (m .row-in) ∙ m .row-is
@@ -246,14 +249,14 @@ module _ {e : Expression} {i a r : ℕ} {rooms : Counts} {place : Place} {c : Le
       come : behind (tree-at t row) (derivative a (tree-at t r)) ≡ next-of .0
       come = behind-split (tree-at t row) (m .met) (next-of .0) (subst NoRepeats list-still (derivative-no-repeats a (tree-at t r))) list-still
 
-      pub member-next : AtMember e i a r rooms (Behind row) (lent t column flags f l o) k′
+      pub member-next : AtMember e i a r rooms (Behind row) (with-rows c′ t) k′
       member-next =
           record {
             met = m .met ++ (tree-at t row ∷ []);
             rest = next-of .0;
             split = met-next;
             progress =
-                subst (λ ms. Progress e ms (lent t column flags f l o) k′)
+                subst (λ ms. Progress e ms (with-rows c′ t) k′)
                 (append-assoc (before e i (a - 1)) (map (meeting i a) (m .met)) (meeting i a (tree-at t row) ∷ [])
                 ∙ ap (λ xs. before e i (a - 1) ++ xs) (sym (map-append (meeting i a) (m .met) (tree-at t row ∷ []))))
                 after;
@@ -263,30 +266,37 @@ module _ {e : Expression} {i a r : ℕ} {rooms : Counts} {place : Place} {c : Le
             standing = (row-below, subst (List·Memᴰ (tree-at t row)) (sym list-still) (Memᴰ·append-right (m .met) (List·Memᴰ·head refl)));
             coming = come;
             state =
-                (let b = so-far-begins e (before e i (a - 1) ++ map (meeting i a) (m .met)) (meeting i a (tree-at t row) ∷ []) in
-                omega (arith, m .state, m .progress .state-count, after .state-count, ap length (b .goes-on), length-append (so-far e (before e i (a - 1) ++ map (meeting i a) (m .met))) (b .rest)));
+                (let b = so-far-begins e (met-at e i a (m .met)) (meeting i a (tree-at t row) ∷ []) in
+                omega (arith, m .state, m .progress .state-count, after .state-count, ap length (b .goes-on), length-append (so-far e (met-at e i a (m .met))) (b .rest)));
             within = m .within;
             low = m .low;
             high = m .high;
           }
 
-      pub member-less : length (to-come t (Behind row) (derivative a (tree-at t r))) < length (to-come (c .rows) place (derivative a (tree-at (c .rows) r)))
-      member-less = omega (arith, ap length come, ap length (m .coming ∙ next-of .1))
+      pub member-less : rooms .arcs - k′ .arcs < rooms .arcs - k .arcs
+      member-less =
+          omega (arith, m .progress .arc-count, after .arc-count, length-append (met-at e i a (m .met)) (meeting i a (tree-at t row) ∷ []), w .goes .1 .arcs-fit)
 
   -- The list is at its end.
   pub member-end : {n : ℕ} {t : Table} → length (t .kind) ≡ length (c .rows .kind)
       → Steps (c .rows) (k .rows) (rooms .rows) (derivative a (tree-at (c .rows) r)) place (End n) t
-      → Progress e (before e i a) (with-rows c t) (with-count k n) × Roomy (with-rows c t) rooms (with-count k n)
+      → AtLetter e i a rooms (with-rows c t) (with-count k n)
   member-end {n} {t} same-length s =
       let last : m .rest ≡ [] = first-none (m .rest) (ap first-of (sym (m .coming)) ∙ s .outcome .2) in
       let all : derivative a (getD (states e) i ∅) ≡ m .met = m .split ∙ ap (λ xs. m .met ++ xs) last ∙ append-nil (m .met) in
-      let whole : before e i a ≡ before e i (a - 1) ++ map (meeting i a) (m .met) =
+      let whole : before e i a ≡ met-at e i a (m .met) =
       ap (before e i) (sym letter-is) ∙ before-letter e i (a - 1)
       ∙ ap (λ (b : ℕ). before e i (a - 1) ++ map (meeting i b) (derivative b (getD (states e) i ∅))) letter-is
-      ∙ ap (λ xs. before e i (a - 1) ++ map (meeting i a) xs) all in (
-        subst (λ ms. Progress e ms (with-rows c t) (with-count k n)) (sym whole) (progress-grown (m .progress) (s .outcome .0) (λ z h. all-needed z (s .outcome .3 z h))),
-        roomy-grown (m .roomy) (s .outcome .0) (s .outcome .1) same-length,
-      )
+      ∙ ap (λ xs. before e i (a - 1) ++ map (meeting i a) xs) all in
+      record {
+        progress =
+            subst (λ ms. Progress e ms (with-rows c t) (with-count k n)) (sym whole)
+            (progress-grown (m .progress) (s .outcome .0) (λ z h. all-needed z (s .outcome .3 z h)));
+        roomy = roomy-grown (m .roomy) (s .outcome .0) (s .outcome .1) same-length;
+        state = m .state;
+        within = m .within;
+        high = m .high;
+      }
 
 -- ---- Answers told by a match
 

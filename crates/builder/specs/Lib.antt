@@ -1,4 +1,3 @@
 pub mod Answer
 pub mod Letters
 pub mod Progress
-pub mod Complete

@@ -1,5 +1,5 @@
 -- How far the automaton of e stands in the lent columns: what is met so far, in 01's order, and what the columns then hold.
-use Prim.Native.Nat.{ℕ, _-_, _≤_, _<_}
+use Prim.Native.Nat.{ℕ, _≤_, _<_}
 use mathlib.Core.Path.{_≡_}
 use mathlib.Core.Bool.{Bool, false, cond}
 use mathlib.Core.Logic.{_⊎_}
@@ -12,7 +12,7 @@ use Rattle.theory.specs.Automaton.{states, arcs, expressions}
 use Rattle.theory.specs.Column.{zeros, filled}
 use Rattle.theory.specs.Table.{Table, trees, tree-at}
 use Rattle.theory.specs.Build.{Lent, Names}
-use Rattle.theory.proofs.Meetings.{Meeting, meeting, meetings, before, so-far}
+use Rattle.theory.proofs.Meetings.{Meeting, meeting, meetings, so-far}
 use Rattle.theory.proofs.Nearing.{Starts}
 use Rattle.derive.specs.Rows.{Rows}
 use Rattle.builder.specs.declared.arcs.Counts.{Counts}
@@ -123,33 +123,15 @@ abbrev pub Begun : Expression → Counts → Went → Table → List ℕ → Lis
 Begun e rooms (On k) t expression accepting = Standing e rooms k t expression accepting
 Begun e rooms NoRoom t expression accepting = Exceeds e rooms
 
--- State i is left by the letter a: all before that is met.
-pub record Leaves (c : Lent) (k : Counts) (i a : ℕ) : Type 0 where
-  pub state : i < k .states
-  pub low : 1 ≤ a
-  pub high : a ≤ 255
-  pub here : k .arcs ≡ length (before (root c) i (a - 1))
-
--- State i is left by all letters: all before that is met.
-pub record LeavesAll (c : Lent) (k : Counts) (i : ℕ) : Type 0 where
-  pub state : i < k .states
-  pub here : k .arcs ≡ length (before (root c) i 0)
-
 -- Letters that are not marked are none of e's.
 abbrev pub Knows : List Bool → Expression → Type 0
 Knows used e = (a : ℕ) → a < 256 → getD used a false ≡ false → List·Memᴰ a (letters e) → ⊥
 
-pub record Reaches (e : Expression) (done : List Meeting) (rooms : Counts) (w : Went) (c : Lent) : Type 0 where
-  pub goes : Goes e done rooms w c
+-- State 0 stands, and nothing is met yet.
+pub record Started (c : Lent) (rooms k : Counts) : Type 0 where
+  pub progress : Progress (root c) [] c k
+  pub roomy : Roomy c rooms k
 
--- All lent columns before the first state.
-pub record Blank (rooms : Counts) (c : Lent) : Type 0 where
-  pub begins : Begins rooms (c .rows) (c .expression) (c .accepting)
-  pub states-small : rooms .states ≤ 65535
-  pub arcs-small : rooms .arcs ≤ 16777216
-  pub from-zero : c .from ≡ zeros (length (c .from))
-  pub letter-zero : c .letter ≡ zeros (length (c .letter))
-  pub to-zero : c .to ≡ zeros (length (c .to))
-  pub from-in : rooms .arcs ≤ length (c .from)
-  pub letter-in : rooms .arcs ≤ length (c .letter)
-  pub to-in : rooms .arcs ≤ length (c .to)
+-- All is met, or a need exceeds its room.
+pub record Reaches (e : Expression) (rooms : Counts) (w : Went) (c : Lent) : Type 0 where
+  pub goes : Goes e (meetings e) rooms w c

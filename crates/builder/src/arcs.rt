@@ -56,8 +56,8 @@ pub fn meet(
     i: usize,
     a: u8,
     row: usize,
-    counts: Counts,
     rooms: Counts,
+    counts: Counts,
     xkind: &[u8],
     xleft: &[u16],
     xright: &[u16],
@@ -79,8 +79,9 @@ pub fn meet(
     let arcs = counts.arcs;
     let state_room = rooms.states;
     let arc_room = rooms.arcs;
+    let next_arc = arcs + 1;
     let j = find(expression, states, row);
-    if arc_room <= arcs {
+    if arc_room < next_arc {
         return Went::NoRoom;
     }
     if j < states {
@@ -89,11 +90,12 @@ pub fn meet(
             counts: Counts {
                 rows: counts.rows,
                 states,
-                arcs: arcs + 1,
+                arcs: next_arc,
             },
         };
     }
-    if state_room <= states {
+    let next_state = states + 1;
+    if state_room < next_state {
         return Went::NoRoom;
     }
     expression[states] = row as u16;
@@ -102,8 +104,8 @@ pub fn meet(
     Went::On {
         counts: Counts {
             rows: counts.rows,
-            states: states + 1,
-            arcs: arcs + 1,
+            states: next_state,
+            arcs: next_arc,
         },
     }
 }

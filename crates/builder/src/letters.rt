@@ -4,7 +4,7 @@ ghost use mathlib.Core.Path.{_≡_};
 ghost use mathlib.Core.Bool.{false};
 ghost use Prim.Native.Nat.{ℕ, _≤_, _<_};
 ghost use lib.ListN.{length, getD};
-ghost use Rattle.builder.specs.Letters.{uses, IsNext};
+ghost use Rattle.builder.specs.Letters.{uses, IsNext, IsTurn};
 
 // 256 marks, one for each letter.
 pub struct Letters {
@@ -14,6 +14,12 @@ pub struct Letters {
 pub enum Next {
     Letter { letter: u8 },
     Over,
+}
+
+// A state and the letter by which it is left next.
+pub enum Turn {
+    To { state: usize, letter: u8 },
+    Done,
 }
 
 // The letters of the entries of kind 2.
@@ -49,5 +55,23 @@ impl Letters {
             a += 1;
         }
         Next::Over
+    }
+
+    // Behind state i by the letter a: the same state by the next letter, or the next state by the first.
+    pub fn turn(self, first: u8, i: usize, a: u8, states: usize) -> Turn
+        requires { ⌜ i < 65535 ⌝ }
+        ensures { λ r. ⌜ IsTurn (λ b. getD (self .used) b false) first i a states r ⌝ }
+    {
+        if let Next::Letter { letter } = self.next(a) {
+            return Turn::To { state: i, letter };
+        }
+        let state = i + 1;
+        if state < states {
+            return Turn::To {
+                state,
+                letter: first,
+            };
+        }
+        Turn::Done
     }
 }

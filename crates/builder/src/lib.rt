@@ -4,13 +4,19 @@ mod arcs;
 mod letters;
 mod states;
 
+use arcs::Counts;
+use arcs::Went;
+use table::Checked;
 ghost use mathlib.Core.Path.{_≡_};
+ghost use mathlib.Core.Bool.{cond};
 ghost use Prim.Native.Nat.{min};
-ghost use Rattle.theory.specs.Table.{table, tree, table-refusal};
+ghost use lib.ListN.{length};
+ghost use Rattle.theory.specs.Column.{zeros};
+ghost use Rattle.theory.specs.Refusal.{refusal, columns-differ};
+ghost use Rattle.theory.specs.Table.{table, table-refusal};
 ghost use Rattle.theory.specs.Build.{lent, Built, Cleared};
+ghost use Rattle.table.specs.Checked.{Scanned};
 ghost use Rattle.builder.specs.Answer.{answer};
-ghost use Rattle.builder.specs.Progress.{Blank};
-ghost use Rattle.builder.specs.Complete.{Completed};
 
 // 01: refused with 1 to 9, or the three counts.
 pub enum Building {
@@ -45,27 +51,13 @@ pub fn build(
         & (accepting.len() == expression.len())
         & (letter.len() == from.len())
         & (to.len() == from.len());
-    clear(
-        xkind,
-        xleft,
-        xright,
-        expression,
-        accepting,
-        from,
-        letter,
-        to,
-    );
-    if !even {
-        return Building::Refused {
-            number: 1,
-            place: 0,
-        };
-    }
-    if let table::Checked::Refused { number, place } = table::check(kind, left, right) {
+    clear_rows(xkind, xleft, xright);
+    clear_automaton(expression, accepting, from, letter, to);
+    if let Checked::Refused { number, place } = checked(even, kind, left, right) {
         return Building::Refused { number, place };
     }
     let rooms = rooms(xkind.len(), expression.len(), from.len());
-    complete(
+    if let Went::On { counts } = states::start(
         kind,
         left,
         right,
@@ -75,17 +67,54 @@ pub fn build(
         xright,
         expression,
         accepting,
-        from,
-        letter,
-        to,
-    )
+    ) {
+        let letters = letters::gather(kind, left);
+        if let Went::On { counts: n } = states::fill(
+            letters,
+            rooms,
+            counts,
+            xkind,
+            xleft,
+            xright,
+            expression,
+            accepting,
+            from,
+            letter,
+            to,
+        ) {
+            return Building::Built {
+                states: n.states,
+                expressions: n.rows,
+                arcs: n.arcs,
+            };
+        }
+    }
+    clear_rows(xkind, xleft, xright);
+    clear_automaton(expression, accepting, from, letter, to);
+    Building::Refused {
+        number: 9,
+        place: 0,
+    }
+}
+
+// 01: "Builder: 1, 2, 3, then entries from 0 upward, each checked for 4, 5, 6, 7; then 8; then 9." All but 9, which is told by building.
+fn checked(even: bool, kind: &[u8], left: &[u16], right: &[u16]) -> Checked
+    ensures { λ r. ⌜ Scanned r (cond even (table-refusal (table (now (kind .entry)) (now (left .entry)) (now (right .entry)))) (refusal columns-differ 0)) ⌝ }
+{
+    if even {
+        return table::check(kind, left, right);
+    }
+    Checked::Refused {
+        number: 1,
+        place: 0,
+    }
 }
 
 // 01: "Rooms: table length, or 65,535 for expressions and states and 16,777,216 for arcs if that is smaller."
-fn rooms(rows: usize, states: usize, arcs: usize) -> arcs::Counts
+fn rooms(rows: usize, states: usize, arcs: usize) -> Counts
     ensures { λ r. ⌜ r ≡ record { rows = min rows 65535; states = min states 65535; arcs = min arcs 16777216 } ⌝ }
 {
-    arcs::Counts {
+    Counts {
         rows: smaller(rows, 65535),
         states: smaller(states, 65535),
         arcs: smaller(arcs, 16777216),
@@ -96,63 +125,6 @@ fn smaller(a: usize, b: usize) -> usize
     ensures { λ r. ⌜ r ≡ min a b ⌝ }
 {
     if a < b { a } else { b }
-}
-
-// The automaton in columns that are zero before; where a need exceeds its room they are zero again.
-fn complete(
-    kind: &[u8],
-    left: &[u16],
-    right: &[u16],
-    rooms: arcs::Counts,
-    xkind: &mut [u8],
-    xleft: &mut [u16],
-    xright: &mut [u16],
-    expression: &mut [u16],
-    accepting: &mut [u8],
-    from: &mut [u16],
-    letter: &mut [u8],
-    to: &mut [u16],
-) -> Building
-    requires { ⌜ (table-refusal (table (now kind) (now left) (now right))) .number ≡ 0 ⌝ }
-    requires { ⌜ Blank rooms (lent (table (now xkind) (now xleft) (now xright)) (now expression) (now accepting) (now from) (now letter) (now to)) ⌝ }
-    ensures { λ r. ⌜ Completed (tree (table (now (kind .entry)) (now (left .entry)) (now (right .entry)))) rooms r (lent (table (now (xkind .entry)) (now (xleft .entry)) (now (xright .entry))) (now (expression .entry)) (now (accepting .entry)) (now (from .entry)) (now (letter .entry)) (now (to .entry))) (lent (table (now (xkind .exit)) (now (xleft .exit)) (now (xright .exit))) (now (expression .exit)) (now (accepting .exit)) (now (from .exit)) (now (letter .exit)) (now (to .exit))) ⌝ }
-{
-    match states::fill(
-        kind,
-        left,
-        right,
-        rooms,
-        xkind,
-        xleft,
-        xright,
-        expression,
-        accepting,
-        from,
-        letter,
-        to,
-    ) {
-        arcs::Went::On { counts } => Building::Built {
-            states: counts.states,
-            expressions: counts.rows,
-            arcs: counts.arcs,
-        },
-        arcs::Went::NoRoom => {
-            clear(
-                xkind,
-                xleft,
-                xright,
-                expression,
-                accepting,
-                from,
-                letter,
-                to,
-            );
-            Building::Refused {
-                number: 9,
-                place: 0,
-            }
-        }
-    }
 }
 
 // 01: "sets all lent output and work columns to zero".
@@ -168,9 +140,33 @@ pub fn clear(
 )
     ensures { λ _. ⌜ Cleared (lent (table (now (xkind .entry)) (now (xleft .entry)) (now (xright .entry))) (now (expression .entry)) (now (accepting .entry)) (now (from .entry)) (now (letter .entry)) (now (to .entry))) (lent (table (now (xkind .exit)) (now (xleft .exit)) (now (xright .exit))) (now (expression .exit)) (now (accepting .exit)) (now (from .exit)) (now (letter .exit)) (now (to .exit))) ⌝ }
 {
+    clear_rows(xkind, xleft, xright);
+    clear_automaton(expression, accepting, from, letter, to);
+}
+
+fn clear_rows(xkind: &mut [u8], xleft: &mut [u16], xright: &mut [u16])
+    ensures { λ _. ⌜ now (xkind .exit) ≡ zeros (length (now (xkind .entry))) ⌝ }
+    ensures { λ _. ⌜ now (xleft .exit) ≡ zeros (length (now (xleft .entry))) ⌝ }
+    ensures { λ _. ⌜ now (xright .exit) ≡ zeros (length (now (xright .entry))) ⌝ }
+{
     columns::clear8(xkind);
     columns::clear16(xleft);
     columns::clear16(xright);
+}
+
+fn clear_automaton(
+    expression: &mut [u16],
+    accepting: &mut [u8],
+    from: &mut [u16],
+    letter: &mut [u8],
+    to: &mut [u16],
+)
+    ensures { λ _. ⌜ now (expression .exit) ≡ zeros (length (now (expression .entry))) ⌝ }
+    ensures { λ _. ⌜ now (accepting .exit) ≡ zeros (length (now (accepting .entry))) ⌝ }
+    ensures { λ _. ⌜ now (from .exit) ≡ zeros (length (now (from .entry))) ⌝ }
+    ensures { λ _. ⌜ now (letter .exit) ≡ zeros (length (now (letter .entry))) ⌝ }
+    ensures { λ _. ⌜ now (to .exit) ≡ zeros (length (now (to .entry))) ⌝ }
+{
     columns::clear16(expression);
     columns::clear8(accepting);
     columns::clear16(from);

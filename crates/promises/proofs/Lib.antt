@@ -1,9 +1,11 @@
 pub mod Causes
 pub mod Examples
+pub mod Printed
 pub mod Limits
 pub mod DemandOne
 pub mod Handing
 pub mod DemandTwo
 pub mod DemandThree
 pub mod ReadThenBuild
+pub mod TextToVerdict
 pub mod Once

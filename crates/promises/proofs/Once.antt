@@ -1,15 +1,14 @@
 -- 01, "What every promise has to say": "that any two results meeting it are equal is proved", with the one exception: "the numbering of all
 -- entries in the expressions table, and so the numbers in the states. There the set of trees that the table holds, each once and each child
 -- before its parent, and the tree that each state names, are determined."
-use Prim.Native.Nat.{ℕ, _<_, _≤_}
+use Prim.Native.Nat.{ℕ}
 use mathlib.Core.Path.{_≡_, sym, ap, _∙_, subst}
 use mathlib.Core.List.{List}
-use lib.ListN.{length, getD}
+use lib.ListN.{length}
 use Rattle.theory.specs.Expression.{Expression}
-use Rattle.theory.specs.Distinct.{Within}
 use Rattle.theory.specs.Language.{Word}
 use Rattle.theory.specs.Automaton.{states, expressions}
-use Rattle.theory.specs.Table.{Table, table, row, trees, tree-at}
+use Rattle.theory.specs.Table.{Table, table}
 use Rattle.theory.specs.Grammar.{Text}
 use Rattle.theory.specs.Read.{Read, Entered, entered}
 use Rattle.theory.specs.Build.{Lent, lent, Counts, Built, build-refusal, Cleared, Stands}
@@ -17,6 +16,7 @@ use Rattle.theory.specs.Record.{Handed}
 use Rattle.theory.specs.Judge.{Judgement, Judged}
 use Rattle.theory.proofs.Due.{due-once, left-by, leaves}
 use Rattle.theory.proofs.Answers.{counts-built}
+use Rattle.promises.specs.Once.{SameBuild, BuildOnce}
 use Rattle.promises.proofs.Causes.Builder.{builder-number}
 
 pub read-once : {text : Text} {t : Table} {a b : Entered} {t′ t″ : Table} → Read text t a t′ → Read text t b t″ → (a ≡ b) × (t′ ≡ t″)
@@ -27,23 +27,6 @@ read-once {t = t} h k =
 pub judge-once : {h : Handed} {w : Word} {now next : List ℕ} {a b : Judgement} {now′ next′ now″ next″ : List ℕ}
     → Judged h w now next a now′ next′ → Judged h w now next b now″ next″ → (a ≡ b) × (now′ ≡ now″) × (next′ ≡ next″)
 judge-once h k = (h .answers ∙ sym (k .answers), h .now-zero ∙ sym (k .now-zero), h .next-zero ∙ sym (k .next-zero))
-
--- The columns other than the expressions and the states' numbers are equal; the expressions' rows hold the same trees in the first n of
--- them and the same elsewhere; each of the m states names the same tree, and beyond the states the numbers are the same.
-pub record SameBuild (n m : ℕ) (c d : Lent) : Type 0 where
-  pub accepting : c .accepting ≡ d .accepting
-  pub from : c .from ≡ d .from
-  pub letter : c .letter ≡ d .letter
-  pub to : c .to ≡ d .to
-  pub kind-length : length (c .rows .kind) ≡ length (d .rows .kind)
-  pub left-length : length (c .rows .left) ≡ length (d .rows .left)
-  pub right-length : length (c .rows .right) ≡ length (d .rows .right)
-  pub expression-length : length (c .expression) ≡ length (d .expression)
-  pub forth : Within (trees (c .rows) n) (trees (d .rows) n)
-  pub back : Within (trees (d .rows) n) (trees (c .rows) n)
-  pub named : (i : ℕ) → i < m → tree-at (c .rows) (getD (c .expression) i 0) ≡ tree-at (d .rows) (getD (d .expression) i 0)
-  pub rows-beyond : (i : ℕ) → n ≤ i → row (c .rows) i ≡ row (d .rows) i
-  pub states-beyond : (i : ℕ) → m ≤ i → getD (c .expression) i 0 ≡ getD (d .expression) i 0
 
 cleared-once : {c d d′ : Lent} → Cleared c d → Cleared c d′ → d ≡ d′
 cleared-once h k =
@@ -66,12 +49,6 @@ stands-once h k = record {
   rows-beyond = λ i l. h .rows .blank i l ∙ sym (k .rows .blank i l);
   states-beyond = λ i l. h .expression .blank i l ∙ sym (k .expression .blank i l);
 }
-
--- On a refusal all columns are equal; else they are the same build.
-pub record BuildOnce (a b : Counts) (d d′ : Lent) : Type 0 where
-  pub answers : a ≡ b
-  pub refused : ¬ (a .refusal .number ≡ 0) → d ≡ d′
-  pub built : a .refusal .number ≡ 0 → SameBuild (a .expressions) (a .states) d d′
 
 pub build-once : {g : Table} {c : Lent} {a b : Counts} {d d′ : Lent} → Built g c a d → Built g c b d′ → BuildOnce a b d d′
 build-once {g} {c} {a} {d = d} {d′} h k = record {

@@ -1,5 +1,4 @@
--- 01: "A text that is read gives a table that the builder never refuses with 1 to 8", where "a caller who read a text hands on the part of the
--- columns that the reader filled"; and the tree of that table is the expression that the text writes.
+-- A text that is read is never refused with 1 to 8.
 use Prim.Native.Nat.{_≤_}
 use mathlib.Core.Path.{_≡_, refl, sym, ap, _∙_, subst}
 use mathlib.Core.Logic.{_⊎_, inl, inr}
@@ -7,22 +6,15 @@ use Rattle.theory.specs.Expression.{Expression, entries}
 use Rattle.theory.specs.Refusal.{Refusal, success}
 use Rattle.theory.specs.Table.{Table, columns, tree, table-refusal}
 use Rattle.theory.specs.Grammar.{Text, rows, written, Writable}
-use Rattle.theory.specs.Read.{Read, Entered}
+use Rattle.theory.specs.Read.{Read, Entered, filled-part}
 use Rattle.theory.specs.Build.{Lent, Counts, Built, EvenLent}
-use Rattle.theory.proofs.Expressed.{filled-part, expressed, filled-rows}
+use Rattle.theory.proofs.Expressed.{expressed, filled-rows}
 use Rattle.theory.proofs.Rows.{rows-tree, rows-refused-never}
 use Rattle.promises.specs.Builder.{BuilderCause, room, none}
 use Rattle.promises.specs.Builder as Building
 use Rattle.promises.proofs.Causes.Table.{table-due}
 use Rattle.promises.proofs.Causes.Builder.{builder-caused, builder-answers}
-
--- What the builder is handed after a text was read.
-pub record ReadThenBuild (text : Text) (g : Table) : Type 0 where
-  pub faultless : table-refusal g ≡ success
-  pub writable : Writable (tree g)
-  pub spelled : written (tree g) ≡ text
-  -- With even columns lent, a build can be refused for room alone.
-  pub builds : {c : Lent} {answer : Counts} {c′ : Lent} → EvenLent c → Built g c answer c′ → (answer .refusal .number ≡ 0) ⊎ (answer .refusal .number ≡ 9)
+use Rattle.promises.specs.ReadThenBuild.{ReadThenBuild}
 
 room-alone : {g : Table} {c : Lent} {r : Refusal} → table-refusal g ≡ success → EvenLent c → BuilderCause g c r → (r .number ≡ 0) ⊎ (r .number ≡ 9)
 room-alone s v (Building.differ n) = absurd (n v)

@@ -3,4 +3,10 @@ pub mod Table
 pub mod Builder
 pub mod Matcher
 pub mod Examples
+pub mod Printed
 pub mod Limits
+pub mod DemandOne
+pub mod DemandTwo
+pub mod DemandThree
+pub mod ReadThenBuild
+pub mod Once

@@ -8,9 +8,9 @@ use Rattle.theory.specs.Expression.{Expression, entries}
 use Rattle.theory.specs.Refusal.{Refusal, refusal}
 use Rattle.theory.specs.Table.{Table, Row, columns}
 use Rattle.theory.specs.Grammar.{Text, Reading, read, refused, rows}
-use Rattle.theory.specs.Read.{Read, Entered, entered, column-of, Due}
+use Rattle.theory.specs.Read.{Read, Entered, entered, filled-part, column-of, Due}
 use Rattle.theory.specs.Build.{Lent, Counts, Built, Cleared, state-room, arc-room}
-use Rattle.theory.proofs.Expressed.{filled-part, Expressed, expressed, filled-rows}
+use Rattle.theory.proofs.Expressed.{Expressed, expressed, filled-rows}
 use Rattle.theory.proofs.Filled.{filled-length}
 use Rattle.theory.proofs.Rows.{rows-length}
 use Rattle.theory.proofs.Rows.Trees.{entries-positive}

@@ -9,13 +9,9 @@ use Rattle.theory.specs.Expression.{Expression, entries}
 use Rattle.theory.specs.Column.{filled}
 use Rattle.theory.specs.Table.{Table, Row, table, columns}
 use Rattle.theory.specs.Grammar.{Text, Reading, read, rows, written, Writable, Reads, whole, broken, stopped, deep, many}
-use Rattle.theory.specs.Read.{Read, Entered, entered, Due, differ, long, short}
+use Rattle.theory.specs.Read.{Read, Entered, entered, filled-part, Due, differ, long, short}
 use Rattle.theory.proofs.Due.{left-by, leaves}
 use Rattle.theory.proofs.Rows.{read-fits, rows-length}
-
--- The part of the columns that the reader filled.
-abbrev pub filled-part : Entered → Table → Table
-filled-part answer t = table (take (answer .entries) (t .kind)) (take (answer .entries) (t .left)) (take (answer .entries) (t .right))
 
 -- The expression that was read.
 pub record Expressed (text : Text) (q : Reading) : Type 0 where

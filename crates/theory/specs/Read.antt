@@ -3,11 +3,11 @@
 use Prim.Native.Nat.{ℕ, _≤_, _<_, min}
 use mathlib.Core.Path.{_≡_}
 use mathlib.Core.List.{List, map}
-use lib.ListN.{length}
+use lib.ListN.{length, take}
 use Rattle.theory.specs.Expression.{Expression, entries}
 use Rattle.theory.specs.Refusal.{Refusal, refusal, success, columns-differ, text-long}
 use Rattle.theory.specs.Column.{zeros, filled}
-use Rattle.theory.specs.Table.{Table, Row}
+use Rattle.theory.specs.Table.{Table, table, Row}
 use Rattle.theory.specs.Grammar.{Text, Reading, read, refused, Reads, rows}
 
 -- 01: "Reader: 1, 12, then the one of 13, 14, 15 with the earliest byte"; 15 counts against "the smaller of 512 and the column length".
@@ -41,3 +41,7 @@ pub record Read (text : Text) (t : Table) (answer : Entered) (t′ : Table) : Ty
   pub kind : t′ .kind ≡ column-of (λ w. w .kind) reading (length (t .kind))
   pub left : t′ .left ≡ column-of (λ w. w .left) reading (length (t .left))
   pub right : t′ .right ≡ column-of (λ w. w .right) reading (length (t .right))
+
+-- 01: "a caller who read a text hands on the part of the columns that the reader filled".
+abbrev pub filled-part : Entered → Table → Table
+filled-part answer t = table (take (answer .entries) (t .kind)) (take (answer .entries) (t .left)) (take (answer .entries) (t .right))

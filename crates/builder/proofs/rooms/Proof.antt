@@ -1,23 +1,16 @@
 use borrow.Author.Needs.{needs}
 use Rattle.builder.proofs.rooms.Statement.{statement}
 use Rattle.builder.proofs.rooms.Tie as tie
-use Rattle.builder.proofs.rooms.Reads as reads
-use Rattle.builder.proofs.rooms.Lts as lts
-use Rattle.builder.proofs.smaller.Reads as smaller-reads
 
--- src/lib.rt:87:15
 smaller-requires : tie.Need-smaller-requires
 smaller-requires c κs = search needs
 
--- src/lib.rt:88:17
 smaller-requires-2 : tie.Need-smaller-requires-2
 smaller-requires-2 c κs = search needs
 
--- src/lib.rt:89:15
 smaller-requires-3 : tie.Need-smaller-requires-3
 smaller-requires-3 c κs = search needs
 
--- src/lib.rt:83:1
 returns : tie.Need-returns
 returns c = λ i. record { rows = c .before .before .smaller .ensures i; states = c .before .smaller2 .ensures i; arcs = c .smaller3 .ensures i }
 

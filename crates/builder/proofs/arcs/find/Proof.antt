@@ -6,8 +6,6 @@ use borrow.Author.Count.{below-more}
 use lib.ListN.{getD}
 use Rattle.builder.proofs.arcs.find.Statement.{statement}
 use Rattle.builder.proofs.arcs.find.Tie as tie
-use Rattle.builder.proofs.arcs.find.Reads as reads
-use Rattle.builder.proofs.arcs.find.Lts as lts
 
 abbrev Inv-loop : tie.InvT-loop
 Inv-loop expression states row i₀ i = (i ≤ states) × ((j : ℕ) → j < i → getD expression j 0 ≡ row → ⊥)
@@ -15,39 +13,30 @@ Inv-loop expression states row i₀ i = (i ≤ states) × ((j : ℕ) → j < i �
 abbrev μ-loop : tie.MeasureT-loop
 μ-loop expression states row i₀ i = states - i
 
--- src/arcs.rt:30:5
 loop-holds : tie.Need-loop-holds Inv-loop μ-loop
 loop-holds c = search needs
 
--- src/arcs.rt:31:13
 mul-if1 : tie.Need-mul-if1 Inv-loop μ-loop
 mul-if1 c = search needs
 
--- src/arcs.rt:31:13
 shared-slice-read-if1 : tie.Need-shared-slice-read-if1 Inv-loop μ-loop
 shared-slice-read-if1 c = search needs
 
--- src/arcs.rt:31:13
 cast-if1 : tie.Need-cast-if1 Inv-loop μ-loop
 cast-if1 c = omega (arith, c .shared-slice-known .given (c .before .before .loop .i))
 
--- src/arcs.rt:32:13
 returns : tie.Need-returns Inv-loop μ-loop
 returns c = record { within = omega arith; found = λ _. c .if1 .taken; before = c .before .before .before .loop .inv .1 }
 
--- src/arcs.rt:34:9
 add-i : tie.Need-add-i Inv-loop μ-loop
 add-i c = search needs
 
--- src/arcs.rt:30:5
 loop-less : tie.Need-loop-less Inv-loop μ-loop
 loop-less c = search needs
 
--- src/arcs.rt:30:5
 loop-again : tie.Need-loop-again Inv-loop μ-loop
 loop-again c = (omega arith, below-more _ _ (c .before .before .before .loop .inv .1) (c .if1 .left))
 
--- src/arcs.rt:25:1
 returns-2 : tie.Need-returns-2 Inv-loop μ-loop
 returns-2 c = record { within = omega arith; found = λ l. absurd (omega arith); before = λ j l. c .before .loop .inv .1 j (omega arith) }
 

@@ -1,160 +1,157 @@
+-- `meet` meets its contract, on its four ways out: no room for the arc, a state that stands, no room for the state, a new state.
 use borrow.Author.Needs.{needs}
-use Rattle.builder.proofs.Meeting.{row-sound}
 use native.Mathlib.Omega.{arith}
 use mathlib.Core.Path.{_∙_, ap}
 use mathlib.Core.Bool.{Bool, cond}
-use Rattle.builder.proofs.Meeting.{met-no-arc, met-no-state, met-known, met-new}
+use Rattle.builder.proofs.Meeting.{row-sound, met-no-arc, met-no-state, met-known, met-new}
 use Rattle.builder.proofs.arcs.meet.Statement.{statement}
 use Rattle.builder.proofs.arcs.meet.Tie as tie
-use Rattle.builder.proofs.arcs.meet.Reads as reads
-use Rattle.builder.proofs.arcs.meet.Lts as lts
-use Rattle.builder.proofs.arcs.find.Reads as find-reads
-use Rattle.builder.proofs.arcs.flag.Reads as flag-reads
-use Rattle.builder.proofs.arcs.store.Reads as store-reads
-use Rattle.derive.proofs.rows.empty_word.Reads as empty-word-reads
 
--- src/arcs.rt:88:9
+-- ---- The places: the entry; a state that stands, and its arc; a new state, its flag, and its arc
+
+abbrev entry : tie.After-find → tie.Start
+entry c = c .before .before .before .before .before .before .before .before .before .before
+
+abbrev storing : tie.After-store → tie.Then2
+storing c = c .before .before .before .before
+
+abbrev stored : tie.After-slice-known8 → tie.After-store
+stored c = c .before .before .before .before .before .before
+
+abbrev flagged : tie.After-store2 → tie.After-flag
+flagged c = c .before .before .before .before
+
+abbrev new : tie.After-store2 → tie.Else3
+new c = flagged c .before .before
+
+abbrev stored-new : tie.After-slice-known11 → tie.After-store2
+stored-new c = c .before .before .before .before .before .before
+
+-- ---- The needs
+
+add-next-arc : tie.Need-add-next-arc
+add-next-arc c = search needs
+
 find-requires : tie.Need-find-requires
 find-requires c κs = search needs
 
--- src/arcs.rt:90:9
 same-length : tie.Need-same-length
 same-length c = search needs
 
--- src/arcs.rt:90:9
 returns : tie.Need-returns
-returns c = met-no-arc (c .before .before .before .before .before .before .before .before .before .before .before .pre .0) (c .before .before .before .before .before .before .before .before .before .before .before .pre .1) _ (c .if1 .taken)
+returns c = let h = entry (c .before) .pre in met-no-arc (h .0) (h .1) _ (omega (arith, c .if1 .taken))
 
--- src/arcs.rt:93:21
 cast-store : tie.Need-cast-store
 cast-store c = search needs
 
--- src/arcs.rt:93:34
 cast-store-2 : tie.Need-cast-store-2
 cast-store-2 c = search needs
 
--- src/arcs.rt:93:9
 store-requires : tie.Need-store-requires
 store-requires c κs = search needs
 
--- src/arcs.rt:98:23
-add-t31 : tie.Need-add-t31
-add-t31 c = omega (arith, c .before .before .before .before .before .before .before .before .before .before .before .before .before .before .before .before .before .before .before .before .before .before .pre .0 .roomy .arcs-small, c .before .before .before .before .before .before .before .before .before .before .before .if1 .left)
-
--- src/arcs.rt:94:9
 same-length-2 : tie.Need-same-length-2
 same-length-2 c = search needs
 
--- src/arcs.rt:94:9
 same-length-3 : tie.Need-same-length-3
 same-length-3 c = search needs
 
--- src/arcs.rt:94:9
 same-length-4 : tie.Need-same-length-4
 same-length-4 c = search needs
 
--- src/arcs.rt:94:9
 same-length-5 : tie.Need-same-length-5
 same-length-5 c = search needs
 
--- src/arcs.rt:94:9
 returns-2 : tie.Need-returns-2
-returns-2 c = met-known (c .before .before .before .before .before .before .before .before .before .before .before .before .before .before .before .before .before .before .before .before .before .before .pre .0) (c .before .before .before .before .before .before .before .before .before .before .before .before .before .before .before .before .before .before .before .before .before .before .pre .1) (c .before .before .before .before .before .before .before .before .before .before .before .if1 .left) (c .before .before .before .before .before .before .before .before .before .before .before .before .find .ensures) (c .before .before .before .before .before .before .before .before .before .before .if2 .taken) _ _ _ (c .before .before .before .before .before .before .store .ensures .0) (c .before .before .before .before .before .before .store .ensures .1 .0) (c .before .before .before .before .before .before .store .ensures .1 .1)
+returns-2 c =
+    let store = stored c .store .ensures in
+    let known = storing (stored c) in
+    let find = known .before .before in
+    let h = entry find .pre in
+    met-known (h .0) (h .1) (omega (arith, known .before .if1 .left)) (find .find .ensures) (known .if2 .taken) _ _ _ (store .0) (store .1 .0) (store .1 .1)
 
--- src/arcs.rt:103:9
+add-next-state : tie.Need-add-next-state
+add-next-state c = search needs
+
 same-length-6 : tie.Need-same-length-6
 same-length-6 c = search needs
 
--- src/arcs.rt:103:9
 returns-3 : tie.Need-returns-3
-returns-3 c = met-no-state (c .before .before .before .before .before .before .before .before .before .before .before .before .before .pre .0) (c .before .before .before .before .before .before .before .before .before .before .before .before .before .pre .1) _ (c .before .before .before .find .ensures) (c .before .if2 .left) (c .if3 .taken)
+returns-3 c =
+    let find = c .before .before .before in
+    let h = entry find .pre in
+    met-no-state (h .0) (h .1) _ (find .find .ensures) (c .before .if2 .left) (omega (arith, c .if3 .taken))
 
--- src/arcs.rt:105:26
 cast-expression : tie.Need-cast-expression
 cast-expression c = search needs
 
--- src/arcs.rt:105:5
 mul-expression : tie.Need-mul-expression
 mul-expression c = search needs
 
--- src/arcs.rt:105:5
 slice-write-expression : tie.Need-slice-write-expression
 slice-write-expression c = search needs
 
--- src/arcs.rt:106:30
 empty-word-requires : tie.Need-empty-word-requires
-empty-word-requires c κs = row-sound (c .before .before .before .before .before .before .before .before .before .before .before .before .before .pre .0 .progress .rows) (c .before .before .before .before .before .before .before .before .before .before .before .before .before .pre .1 .row)
+empty-word-requires c κs = let h = entry (c .before .before .before) .pre in row-sound (h .0 .progress .rows) (h .1 .row)
 
--- src/arcs.rt:106:25
 flag-requires : tie.Need-flag-requires
 flag-requires c κs = search needs
 
--- src/arcs.rt:106:5
 slice-write-accepting : tie.Need-slice-write-accepting
 slice-write-accepting c = search needs
 
--- src/arcs.rt:107:17
 cast-store-3 : tie.Need-cast-store-3
 cast-store-3 c = search needs
 
--- src/arcs.rt:107:30
 cast-store-4 : tie.Need-cast-store-4
 cast-store-4 c = search needs
 
--- src/arcs.rt:107:5
 store-requires-2 : tie.Need-store-requires-2
 store-requires-2 c κs = search needs
 
--- src/arcs.rt:111:21
-add-t34 : tie.Need-add-t34
-add-t34 c = search needs
-
--- src/arcs.rt:112:19
-add-t46 : tie.Need-add-t46
-add-t46 c = omega (arith, c .before .before .before .before .before .before .before .before .before .before .before .before .before .before .before .before .before .before .before .before .before .before .before .before .before .pre .0 .roomy .arcs-small, c .before .before .before .before .before .before .before .before .before .before .before .before .before .before .if1 .left)
-
--- src/arcs.rt:55:1
 same-length-7 : tie.Need-same-length-7
 same-length-7 c = search needs
 
--- src/arcs.rt:55:1
 same-length-8 : tie.Need-same-length-8
 same-length-8 c = search needs
 
--- src/arcs.rt:55:1
 same-length-9 : tie.Need-same-length-9
 same-length-9 c = search needs
 
--- src/arcs.rt:55:1
 same-length-10 : tie.Need-same-length-10
 same-length-10 c = search needs
 
--- src/arcs.rt:55:1
 same-length-11 : tie.Need-same-length-11
 same-length-11 c = search needs
 
--- src/arcs.rt:55:1
 returns-4 : tie.Need-returns-4
 returns-4 c =
-    met-new (c .before .before .before .before .before .before .before .before .before .before .before .before .before .before .before .before .before .before .before .before .before .before .before .before .before .pre .0) (c .before .before .before .before .before .before .before .before .before .before .before .before .before .before .before .before .before .before .before .before .before .before .before .before .before .pre .1) (c .before .before .before .before .before .before .before .before .before .before .before .before .before .before .if1 .left) (c .before .before .before .before .before .before .before .before .before .before .before .before .before .before .before .find .ensures) (c .before .before .before .before .before .before .before .before .before .before .before .before .before .if2 .left) (c .before .before .before .before .before .before .before .before .before .before .before .before .if3 .left) _ _ _ _
-    (c .before .before .before .before .before .before .before .before .before .before .flag .ensures ∙ ap (λ (y : Bool). cond y 1 0) (c .before .before .before .before .before .before .before .before .before .before .before .empty-word .ensures)) (c .before .before .before .before .before .before .store2 .ensures .0) (c .before .before .before .before .before .before .store2 .ensures .1 .0) (c .before .before .before .before .before .before .store2 .ensures .1 .1)
+    let store = stored-new c .store2 .ensures in
+    let state = new (stored-new c) in
+    let room = state .before .before in
+    let find = room .before in
+    let h = entry find .pre in
+    let flag = flagged (stored-new c) in
+    met-new (h .0) (h .1) (omega (arith, room .if1 .left)) (find .find .ensures) (state .before .if2 .left) (omega (arith, state .if3 .left)) _ _ _ _
+    (flag .flag .ensures ∙ ap (λ (y : Bool). cond y 1 0) (flag .before .empty-word .ensures)) (store .0) (store .1 .0) (store .1 .1)
 
 pub meet-spec : {M : Type 1} → statement M
 meet-spec =
     tie.close
     (tie.spec
+    add-next-arc
     find-requires
     same-length
     returns
     cast-store
     cast-store-2
     store-requires
-    add-t31
     same-length-2
     same-length-3
     same-length-4
     same-length-5
     returns-2
+    add-next-state
     same-length-6
     returns-3
     cast-expression
@@ -166,8 +163,6 @@ meet-spec =
     cast-store-3
     cast-store-4
     store-requires-2
-    add-t34
-    add-t46
     same-length-7
     same-length-8
     same-length-9
