@@ -4,7 +4,6 @@ use mathlib.Core.Bool.{cond}
 use mathlib.Core.List.{List}
 use lib.ListN.{length, getD}
 use lib.Dec.{ltb}
-use Rattle.columns.specs.declared.Cursor.{Cursor}
 use Rattle.columns.specs.declared.Step.{Step}
 use Rattle.columns.specs.declared.Step.the-variants.{Byte, End}
 

@@ -1,11 +1,10 @@
 -- The answer for the empty word by a row's kind, over its children's answers. Assumes nothing.
 use Prim.Native.Nat.{ℕ, zero, suc, _≤_, _<_}
-use native.Mathlib.Nat.{lt-of-lt-of-le, le-refl}
+use native.Mathlib.Nat.{le-refl}
 use native.Mathlib.Omega.{arith}
 use mathlib.Core.Path.{_≡_, refl, sym, ap, _∙_, subst}
-use mathlib.Core.Bool.{Bool, true, false, _&&_, _||_}
-use lib.ListN.{length}
-use Rattle.theory.specs.Expression.{Expression, Sign, binary, union, concatenation, shuffle}
+use mathlib.Core.Bool.{true, false, _&&_, _||_}
+use Rattle.theory.specs.Expression.{Sign, binary, union, concatenation, shuffle}
 use Rattle.theory.specs.Derivative.{empty-word}
 use Rattle.theory.specs.Table.{Table, Row, row, Sound, tree-at, kind-of-sign}
 use Rattle.theory.proofs.KindOf.{tree-∅, tree-ε, tree-letter, tree-sign, tree-star, sound-kind, sound-left, sound-right}

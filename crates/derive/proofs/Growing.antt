@@ -2,7 +2,7 @@
 -- one row more. Assumes nothing.
 use Prim.Native.Nat.{ℕ, suc, _+_, _≤_, _<_}
 use native.Mathlib.Decide.{ℕ-discrete, decLe}
-use native.Mathlib.Nat.{le-refl, le-of-lt, le-trans, lt-of-lt-of-le, le-of-eq, eq-or-lt-of-le, le-of-suc-le-suc}
+use native.Mathlib.Nat.{le-refl, le-of-lt, le-trans, lt-of-lt-of-le, le-of-eq}
 use native.Mathlib.Numerals.{add-one}
 use native.Mathlib.Omega.{arith}
 use mathlib.Core.Path.{_≡_, refl, sym, ap, ap₂, _∙_, subst}
@@ -10,11 +10,11 @@ use mathlib.Core.Bool.{Bool, true, false, _&&_, true≢false, false≢true}
 use lib.Dec.{eqb}
 use borrow.Author.Tests.{eqb-true, eq-eqb}
 use borrow.Author.Count.{below-more}
-use mathlib.Core.Logic.{_⊎_, inl, inr, ⊎-elim}
-use mathlib.Core.List.{List, [], _∷_, _++_, List·Memᴰ, List·Memᴰ·head, List·Memᴰ·tail, List·Memᴰ·append-cases, List·Memᴰ·eq-of-singleton, List·Memᴰ·not-nil, List·Memᴰ·cases-cons, Memᴰ·append-left, Memᴰ·cast}
-use lib.ListN.{length, getD, set, length-set}
+use mathlib.Core.Logic.{_⊎_, ⊎-elim}
+use mathlib.Core.List.{List, [], _∷_, _++_, List·Memᴰ, List·Memᴰ·head, List·Memᴰ·tail, List·Memᴰ·append-cases, List·Memᴰ·eq-of-singleton, List·Memᴰ·not-nil, Memᴰ·cast}
+use lib.ListN.{length, set, length-set}
 use lib.Seq.{getD-set-same, getD-set-other}
-use Rattle.theory.specs.Expression.{Expression, same, ∅, ε}
+use Rattle.theory.specs.Expression.{Expression, same, ∅}
 use Rattle.theory.specs.Distinct.{NoRepeats, Within, place}
 use Rattle.theory.specs.Table.{Table, Row, table, row, entry, Sound, trees, tree-at, row-tree}
 use Rattle.theory.proofs.Distinct.{place-of}

@@ -1,14 +1,13 @@
 -- Finding or adding a row: what the code's three ways give. Assumes nothing.
-use Prim.Native.Nat.{ℕ, suc, _+_, _≤_, _<_}
-use native.Mathlib.Nat.{le-refl, lt-of-lt-of-le, lt-irrefl}
+use Prim.Native.Nat.{ℕ, _+_, _≤_, _<_}
+use native.Mathlib.Nat.{lt-of-lt-of-le}
 use native.Mathlib.Omega.{arith}
-use mathlib.Core.Path.{_≡_, refl, sym, ap, _∙_, subst}
+use mathlib.Core.Path.{_≡_, sym, ap, _∙_, subst}
 use mathlib.Core.List.{List·Memᴰ, List·Memᴰ·tail}
 use lib.ListN.{length}
-use Rattle.theory.specs.Expression.{Expression}
-use Rattle.theory.specs.Table.{Table, Row, row, entry, Sound, trees, tree-at, row-tree}
+use Rattle.theory.specs.Table.{Table, Row, row, entry, Sound, trees, row-tree}
 use Rattle.theory.proofs.Trees.{trees-of}
-use Rattle.derive.specs.Rows.{Rows, Grown, FirstRow, Interns}
+use Rattle.derive.specs.Rows.{Rows, FirstRow, Interns}
 use Rattle.derive.specs.declared.rows.Interned.the-variants.{At, Full}
 use Rattle.derive.proofs.Growing.{rows-tree, row-found, grown-none, with-row, new-tree, one-more, one-more-within}
 

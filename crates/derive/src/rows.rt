@@ -4,7 +4,7 @@ ghost use mathlib.Core.Path.{_≡_};
 ghost use Prim.Native.Nat.{ℕ, _≤_, _<_};
 ghost use lib.ListN.{length};
 ghost use Rattle.theory.specs.Derivative.{empty-word};
-ghost use Rattle.theory.specs.Table.{table, tree-at, entry, Sound, trees, row-tree, size, table-refusal};
+ghost use Rattle.theory.specs.Table.{table, tree-at, entry, Sound, trees, row-tree};
 ghost use Rattle.derive.specs.Rows.{Rows, SoundTo, FirstRow, Interns, Takes};
 
 // A row with the number of rows that are used now, or no room for it.

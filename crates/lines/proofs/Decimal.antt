@@ -1,5 +1,5 @@
 -- The fewest digits that hold a number are the definition's.
-use Prim.Native.Nat.{ℕ, zero, suc, _+_, _-_, _*_, _/_, _%_, _^_, _≤_, _<_}
+use Prim.Native.Nat.{ℕ, zero, suc, _+_, _-_, _/_, _%_, _^_, _≤_, _<_}
 use native.Mathlib.Nat.{suc-sub-suc, sub-zero, pow-suc, one-le-pow, pow-le-pow-right, mod-lt, mod-eq-of-lt}
 use native.Mathlib.Omega.{arith, by-contra}
 use mathlib.Core.Path.{_≡_, refl, sym, ap, ap₂, _∙_, subst}

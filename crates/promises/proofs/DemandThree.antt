@@ -6,9 +6,9 @@ use mathlib.Core.Path.{_≡_, _∙_, subst}
 use lib.ListN.{length}
 use Rattle.theory.specs.Refusal.{success}
 use Rattle.theory.specs.Expression.{entries, letters}
-use Rattle.theory.specs.Table.{Table, row, size, tree, table-refusal, WellFormed}
+use Rattle.theory.specs.Table.{Table, size, tree, table-refusal, WellFormed}
 use Rattle.theory.specs.Automaton.{states, expressions, arcs}
-use Rattle.theory.specs.Build.{Lent, Counts, Built, EvenLent, OverRoom, of-expressions, of-states, of-arcs}
+use Rattle.theory.specs.Build.{Lent, Counts, Built, OverRoom, of-expressions, of-states, of-arcs}
 use Rattle.theory.proofs.WellFormed.{well-formed, tree-entries, tree-letters}
 use Rattle.theory.proofs.Bounds.{states-bound, expressions-bound, arcs-bound}
 use Rattle.promises.specs.Builder.{none}

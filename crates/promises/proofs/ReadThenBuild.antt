@@ -7,7 +7,7 @@ use Rattle.theory.specs.Refusal.{Refusal, success}
 use Rattle.theory.specs.Table.{Table, columns, tree, table-refusal}
 use Rattle.theory.specs.Grammar.{Text, rows, written, Writable}
 use Rattle.theory.specs.Read.{Read, Entered, filled-part}
-use Rattle.theory.specs.Build.{Lent, Counts, Built, EvenLent}
+use Rattle.theory.specs.Build.{Lent, EvenLent}
 use Rattle.theory.proofs.Expressed.{expressed, filled-rows}
 use Rattle.theory.proofs.Rows.{rows-tree, rows-refused-never}
 use Rattle.promises.specs.Builder.{BuilderCause, room, none}

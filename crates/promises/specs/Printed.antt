@@ -1,6 +1,6 @@
 -- 01, "Two programs": what it shows of the programs' output, held against the definition of their lines. `(a&b)` has the sample listing.
 use mathlib.Core.Path.{_≡_}
-use mathlib.Core.List.{List, [], _∷_}
+use mathlib.Core.List.{[], _∷_}
 use Rattle.theory.specs.Expression.{Expression, ∅, ε, letter, binary, concatenation, shuffle}
 use Rattle.theory.specs.Refusal.{refusal, text-long}
 use Rattle.theory.specs.Record.{automaton, verdict, live}

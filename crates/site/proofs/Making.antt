@@ -4,9 +4,9 @@ use native.Mathlib.Omega.{arith}
 use mathlib.Core.Path.{_≡_, refl, sym, ap, _∙_, subst}
 use mathlib.Core.List.{List, map}
 use lib.ListN.{length, length-map}
-use Rattle.theory.specs.Expression.{Expression, entries}
+use Rattle.theory.specs.Expression.{entries}
 use Rattle.theory.specs.Refusal.{Refusal, refusal}
-use Rattle.theory.specs.Table.{Table, Row, columns}
+use Rattle.theory.specs.Table.{Table, Row}
 use Rattle.theory.specs.Grammar.{Text, Reading, read, refused, rows}
 use Rattle.theory.specs.Read.{Read, Entered, entered, filled-part, column-of, Due}
 use Rattle.theory.specs.Build.{Counts, Built, Cleared}

@@ -2,7 +2,6 @@
 
 use columns::Row;
 ghost use mathlib.Core.Path.{_≡_};
-ghost use mathlib.Core.Bool.{Bool};
 ghost use lib.ListN.{length};
 ghost use Rattle.theory.specs.Table.{table, row, meaning, fields-fit, row-children, all-below, entry-fault, first-fault};
 ghost use Rattle.columns.specs.Row.{as-row};

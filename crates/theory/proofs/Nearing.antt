@@ -1,20 +1,20 @@
 -- What a builder that goes through the meetings in 01's order may conclude on the way and at the end: numbers already given stay, needs
 -- only grow, and where every state was left nothing is missing. Leans on `Meetings` and `States`. Assumes nothing.
-use Prim.Native.Nat.{ℕ, zero, suc, _+_, _-_, _≤_, _<_}
-use native.Mathlib.Nat.{le-refl, le-trans, lt-of-lt-of-le, le-of-eq, le-add-right, zero-add}
+use Prim.Native.Nat.{ℕ, suc, _+_, _-_, _≤_, _<_}
+use native.Mathlib.Nat.{le-trans, lt-of-lt-of-le, le-of-eq, le-add-right, zero-add}
 use native.Mathlib.Omega.{arith}
-use mathlib.Core.Path.{_≡_, refl, sym, ap, ap₂, _∙_, subst}
-use mathlib.Core.Logic.{_⊎_, inl, inr, ⊎-elim}
-use mathlib.Core.List.{List, [], _∷_, _++_, map, flatMap, append-assoc, append-nil, map-append, List·Memᴰ, List·Memᴰ·head, List·Memᴰ·tail, Memᴰ·append-left, Memᴰ·append-right, Memᴰ·cast, List·Memᴰ·not-nil}
-use lib.ListN.{length, getD, take, drop, length-map, length-append, take-append-drop, List·getD-append}
+use mathlib.Core.Path.{_≡_, refl, sym, ap, _∙_, subst}
+use mathlib.Core.Logic.{_⊎_}
+use mathlib.Core.List.{List, [], _∷_, _++_, map, flatMap, append-assoc, append-nil, map-append, List·Memᴰ, List·Memᴰ·head, List·Memᴰ·tail, Memᴰ·append-left}
+use lib.ListN.{length, getD, take, drop, length-map, length-append, List·getD-append}
 use lib.Seq.{take-append-seam, split-at, length-take-le}
 use Rattle.theory.specs.Expression.{Expression, ∅, ε, same, parts, letters}
-use Rattle.theory.specs.Distinct.{distinct, place, NoRepeats, Within}
+use Rattle.theory.specs.Distinct.{place, Within}
 use Rattle.theory.specs.Derivative.{derivative}
-use Rattle.theory.specs.Automaton.{ascending, alphabet, successors, met, states, arcs, expressions, Derived, onward}
-use Rattle.theory.proofs.Distinct.{distinct-of, to-distinct, place-of, at-place, place-below, getD-member}
+use Rattle.theory.specs.Automaton.{ascending, alphabet, met, states, arcs, expressions}
+use Rattle.theory.proofs.Distinct.{to-distinct, place-of, getD-member}
 use Rattle.theory.proofs.Members.{to-flatMap}
-use Rattle.theory.proofs.States.{Begins, states-complete, states-no-repeats, states-only, states-derived, derived-states}
+use Rattle.theory.proofs.States.{Begins, states-no-repeats, states-only, states-derived}
 use Rattle.theory.proofs.Bounds.{states-support}
 use Rattle.theory.proofs.Bounds.Letters.{derivative-letter, support-letters}
 use Rattle.theory.proofs.Meetings.{Meeting, meeting, by-letters, by-states, before, meetings, to-arc, so-far, so-far-begins, states-met, arcs-met, so-far-met, before-letter, ascending-split, by-letters-append, by-states-append}

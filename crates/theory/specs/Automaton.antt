@@ -1,7 +1,7 @@
 -- 01, "Derivatives, and the order of states and arcs": states, arcs, accepting states, expressions, and the three needs.
 use Prim.Native.Nat.{ℕ, zero, suc, _^_}
 use mathlib.Core.Path.{_≡_}
-use mathlib.Core.Bool.{Bool, true, false, cond}
+use mathlib.Core.Bool.{true, false, cond}
 use mathlib.Core.List.{List, [], _∷_, _++_, map, flatMap, List·Memᴰ}
 use lib.ListN.{length}
 use lib.Dec.{eqb}

@@ -4,7 +4,7 @@ use Prim.Native.Nat.{ℕ, _≤_, _<_, min}
 use mathlib.Core.Path.{_≡_}
 use mathlib.Core.List.{List, map}
 use lib.ListN.{length, take}
-use Rattle.theory.specs.Expression.{Expression, entries}
+use Rattle.theory.specs.Expression.{entries}
 use Rattle.theory.specs.Refusal.{Refusal, refusal, success, columns-differ, text-long}
 use Rattle.theory.specs.Column.{zeros, filled}
 use Rattle.theory.specs.Table.{Table, table, Row}

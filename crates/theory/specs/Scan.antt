@@ -1,7 +1,7 @@
 -- The executable reading of a text, a byte at a time with the open parentheses on a stack. The law `scan-reads` says that it is
 -- the reading of `Grammar`.
 use Prim.Native.Nat.{ℕ, suc, _+_}
-use mathlib.Core.Bool.{Bool, true, false, cond}
+use mathlib.Core.Bool.{true, false, cond}
 use mathlib.Core.List.{List, [], _∷_}
 use mathlib.Core.Option.{Option, none, some}
 use lib.ListN.{length}

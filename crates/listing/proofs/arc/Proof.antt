@@ -1,6 +1,6 @@
+use borrow.Author.Needs.{needs}
 use native.Mathlib.Omega.{arith}
 use Rattle.lines.proofs.Putting.{put-then}
-use borrow.Author.Needs.{needs}
 use Rattle.listing.proofs.arc.Statement.{statement}
 use Rattle.listing.proofs.arc.Tie as tie
 

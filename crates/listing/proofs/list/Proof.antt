@@ -1,9 +1,19 @@
+use borrow.Author.Needs.{needs}
 use native.Mathlib.Omega.{arith}
 use Rattle.site.proofs.Making.{built-within}
 use Rattle.lines.proofs.Putting.{counts-of}
-use borrow.Author.Needs.{needs}
 use Rattle.listing.proofs.list.Statement.{statement}
 use Rattle.listing.proofs.list.Tie as tie
+
+-- ---- The places behind the match on what was built: the call of `automaton`, the entry
+
+abbrev of-automaton : tie.After-state-count → tie.After-automaton
+of-automaton c = c .before .before .before .before .before .before
+
+abbrev entry : tie.After-state-count → tie.Start
+entry c = of-automaton c .before .before .before .before .before .before .before
+
+-- ---- The needs
 
 slice-aggregate-automaton : tie.Need-slice-aggregate-automaton
 slice-aggregate-automaton c = search needs
@@ -40,20 +50,25 @@ slice-aggregate-arcs-3 c = search needs
 
 arcs-requires : tie.Need-arcs-requires
 arcs-requires c κs =
-    let made = c .before .before .before .before .before .before .before .before .before .before .before .automaton in
-    let within = built-within (c .before .before .before .before .before .state-count .given .1) (made .ensures) .1 in
+    let case = c .before .before .before .before .before in
+    let made = of-automaton case .automaton in
+    let within = built-within (case .state-count .given .1) (made .ensures) .1 in
     let kept = made .kept .1 .1 in
-    (omega (arith, c .before .before .before .before .before .before .before .before .before .before .before .before .before .before .before .before .before .before .pre), omega (arith, within, kept .0), omega (arith, within, kept .1 .1 .0), omega (arith, within, kept .1 .0))
+    (omega (arith, entry case .pre), omega (arith, within, kept .0), omega (arith, within, kept .1 .1 .0), omega (arith, within, kept .1 .0))
 
 slice-aggregate-states : tie.Need-slice-aggregate-states
 slice-aggregate-states c = search needs
 
 states-requires : tie.Need-states-requires
 states-requires c κs =
-    let made = c .before .before .before .before .before .before .before .before .before .before .before .before .before .before .before .before .automaton in
     let printed = c .before .before .before .before .arcs in
-    let within = built-within (c .before .before .before .before .before .before .before .before .before .before .state-count .given .1) (made .ensures) .0 in
-    (omega (arith, c .before .before .before .before .before .before .before .before .before .before .before .before .before .before .before .before .before .before .before .before .before .before .before .pre, printed .kept .0), omega (arith, printed .kept .0, printed .ensures), omega (arith, within, made .kept .1 .0))
+    let case = c .before .before .before .before .before .before .before .before .before .before in
+    let made = of-automaton case .automaton in
+    let within = built-within (case .state-count .given .1) (made .ensures) .0 in (
+      omega (arith, entry case .pre, printed .kept .0),
+      omega (arith, printed .kept .0, printed .ensures),
+      omega (arith, within, made .kept .1 .0),
+    )
 
 same-length : tie.Need-same-length
 same-length c = search needs

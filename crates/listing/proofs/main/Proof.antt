@@ -1,7 +1,7 @@
-use Rattle.lines.proofs.Taking.{inside-start, took}
-use lib.Seq.{length-take-le}
-use mathlib.Core.Path.{sym}
 use borrow.Author.Needs.{needs}
+use mathlib.Core.Path.{sym}
+use lib.Seq.{length-take-le}
+use Rattle.lines.proofs.Taking.{inside-start, took}
 use Rattle.listing.proofs.main.Statement.{statement}
 use Rattle.listing.proofs.main.Tie as tie
 

@@ -1,6 +1,6 @@
-use Rattle.lines.proofs.Putting.{put-then}
-use native.Mathlib.Omega.{arith}
 use borrow.Author.Needs.{needs}
+use native.Mathlib.Omega.{arith}
+use Rattle.lines.proofs.Putting.{put-then}
 use Rattle.records.proofs.line.Statement.{statement}
 use Rattle.records.proofs.line.Tie as tie
 

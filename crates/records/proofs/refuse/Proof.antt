@@ -1,7 +1,7 @@
-use lib.Seq.{length-take-le}
-use mathlib.Core.Path.{sym}
-use native.Mathlib.Omega.{arith}
 use borrow.Author.Needs.{needs}
+use native.Mathlib.Omega.{arith}
+use mathlib.Core.Path.{sym}
+use lib.Seq.{length-take-le}
 use Rattle.records.proofs.refuse.Statement.{statement}
 use Rattle.records.proofs.refuse.Tie as tie
 

@@ -1,6 +1,6 @@
-use Rattle.records.proofs.Said.{said}
-use native.Mathlib.Omega.{arith}
 use borrow.Author.Needs.{needs}
+use native.Mathlib.Omega.{arith}
+use Rattle.records.proofs.Said.{said}
 use Rattle.records.proofs.verdict.Statement.{statement}
 use Rattle.records.proofs.verdict.Tie as tie
 

@@ -7,7 +7,7 @@ use Rattle.theory.specs.Read.{Read}
 use Rattle.reader.specs.Answer.{answer as entered-by}
 use Rattle.reader.specs.declared.Reading.the-variants.{Read as IsRead}
 use Rattle.site.specs.Site.{entry-columns}
-use Rattle.site.proofs.Making.{answered, Within, within, made-built, made-refused}
+use Rattle.site.proofs.Making.{answered, within, made-built, made-refused}
 use Rattle.site.proofs.automaton.Statement.{statement}
 use Rattle.site.proofs.automaton.Tie as tie
 

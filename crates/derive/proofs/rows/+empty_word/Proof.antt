@@ -1,6 +1,6 @@
 use borrow.Author.Needs.{needs}
 use native.Mathlib.Omega.{arith}
-use mathlib.Core.Path.{_∙_, ap, ap₂}
+use mathlib.Core.Path.{_∙_, ap₂}
 use mathlib.Core.Bool.{_&&_, _||_}
 use Rattle.derive.proofs.Answering.{sound-to-less, left-below, right-below, word-ε, word-star, word-none, word-union, word-both}
 use Prim.Native.Nat.{ℕ, _<_}

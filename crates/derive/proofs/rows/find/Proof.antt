@@ -9,9 +9,6 @@ use Rattle.columns.specs.Row.{as-row}
 use Rattle.derive.proofs.Growing.{test-told, test-refuted, Passed, passed-none, passed-more}
 use Rattle.derive.proofs.rows.find.Statement.{statement}
 use Rattle.derive.proofs.rows.find.Tie as tie
-use Rattle.derive.proofs.rows.find.Reads as reads
-use Rattle.derive.proofs.rows.find.Lts as lts
-use Rattle.columns.proofs.row_at.Reads as row-at-reads
 
 abbrev Inv-loop : tie.InvT-loop
 Inv-loop kind left right used start k l r i₀ i = Passed (table kind left right) start (entry k l r) i

@@ -1,15 +1,8 @@
 use borrow.Author.Needs.{needs}
 use native.Mathlib.Omega.{arith}
-use mathlib.Core.Path.{sym, subst}
-use lib.ListN.{length-set}
-use Rattle.derive.specs.Rows.{FirstRow}
 use Rattle.derive.proofs.Interning.{intern-found, intern-absent, intern-new}
 use Rattle.derive.proofs.rows.intern.Statement.{statement}
 use Rattle.derive.proofs.rows.intern.Tie as tie
-use Rattle.derive.proofs.rows.intern.Reads as reads
-use Rattle.derive.proofs.rows.intern.Lts as lts
-use Rattle.derive.proofs.rows.find.Reads as find-reads
-use Rattle.derive.proofs.rows.search_start.Reads as search-start-reads
 
 -- src/rows.rt:72:45
 search-start-requires : tie.Need-search-start-requires

@@ -1,12 +1,8 @@
 use borrow.Author.Needs.{needs}
 use Rattle.derive.proofs.Growing.{children-before}
 use native.Mathlib.Omega.{arith}
-use Rattle.theory.specs.Table.{entry}
-use Rattle.theory.proofs.KindOf.{sound-left, sound-right-zero, sound-right}
 use Rattle.derive.proofs.rows.search_start.Statement.{statement}
 use Rattle.derive.proofs.rows.search_start.Tie as tie
-use Rattle.derive.proofs.rows.search_start.Reads as reads
-use Rattle.derive.proofs.rows.search_start.Lts as lts
 
 -- src/rows.rt:37:9
 returns : tie.Need-returns

@@ -4,10 +4,6 @@ use lib.ListN.{length-replicate}
 use Rattle.trials.proofs.Prefix.{prefix-length}
 use Rattle.trials.proofs.records.no_arc.Statement.{statement}
 use Rattle.trials.proofs.records.no_arc.Tie as tie
-use Rattle.trials.proofs.records.no_arc.Reads as reads
-use Rattle.trials.proofs.records.no_arc.Lts as lts
-use Rattle.matcher.proofs.judge.Reads as judge-reads
-use Rattle.trials.proofs.records.show.Reads as show-reads
 
 -- src/records.rt:56:9
 slice-aggregate-judge : tie.Need-slice-aggregate-judge

@@ -3,9 +3,6 @@ use mathlib.Core.Path.{refl}
 use Rattle.trials.proofs.Prefix.{prefix-length}
 use Rattle.trials.proofs.tables.entries.Statement.{statement}
 use Rattle.trials.proofs.tables.entries.Tie as tie
-use Rattle.trials.proofs.tables.entries.Reads as reads
-use Rattle.trials.proofs.tables.entries.Lts as lts
-use Rattle.trials.proofs.tables.exact.Reads as exact-reads
 
 -- src/tables.rt:76:23
 slice-aggregate-exact : tie.Need-slice-aggregate-exact

@@ -3,9 +3,6 @@ use mathlib.Core.Path.{refl}
 use Rattle.trials.proofs.Prefix.{prefix-length}
 use Rattle.trials.proofs.texts.beginning.Statement.{statement}
 use Rattle.trials.proofs.texts.beginning.Tie as tie
-use Rattle.trials.proofs.texts.beginning.Reads as reads
-use Rattle.trials.proofs.texts.beginning.Lts as lts
-use Rattle.trials.proofs.texts.read.Reads as read-reads
 
 -- src/texts.rt:129:14
 slice-aggregate-read : tie.Need-slice-aggregate-read

@@ -4,10 +4,6 @@ use mathlib.Core.Path.{_≡_}
 use lib.ListN.{length}
 use Rattle.trials.proofs.texts.close.Statement.{statement}
 use Rattle.trials.proofs.texts.close.Tie as tie
-use Rattle.trials.proofs.texts.close.Reads as reads
-use Rattle.trials.proofs.texts.close.Lts as lts
-use Rattle.trials.proofs.texts.following.Reads as following-reads
-use Rattle.trials.proofs.texts.put.Reads as put-reads
 
 abbrev Inv-loop : tie.InvT-loop
 Inv-loop text₀ start end i₀ byte₀ text i byte = length text ≡ length text₀

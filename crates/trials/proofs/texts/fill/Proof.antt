@@ -4,9 +4,6 @@ use mathlib.Core.Path.{_≡_}
 use lib.ListN.{length}
 use Rattle.trials.proofs.texts.fill.Statement.{statement}
 use Rattle.trials.proofs.texts.fill.Tie as tie
-use Rattle.trials.proofs.texts.fill.Reads as reads
-use Rattle.trials.proofs.texts.fill.Lts as lts
-use Rattle.trials.proofs.texts.put.Reads as put-reads
 
 abbrev Inv-loop : tie.InvT-loop
 Inv-loop text₀ start end byte i₀ text i = length text ≡ length text₀

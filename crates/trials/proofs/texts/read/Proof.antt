@@ -4,9 +4,6 @@ use lib.ListN.{length-replicate}
 use Rattle.trials.proofs.Prefix.{prefix-length}
 use Rattle.trials.proofs.texts.read.Statement.{statement}
 use Rattle.trials.proofs.texts.read.Tie as tie
-use Rattle.trials.proofs.texts.read.Reads as reads
-use Rattle.trials.proofs.texts.read.Lts as lts
-use Rattle.trials.proofs.texts.show.Reads as show-reads
 
 -- src/texts.rt:28:16
 array-borrow-prefix-kind : tie.Need-array-borrow-prefix-kind

@@ -4,10 +4,6 @@ use mathlib.Core.Path.{_≡_}
 use lib.ListN.{length}
 use Rattle.trials.proofs.texts.shift.Statement.{statement}
 use Rattle.trials.proofs.texts.shift.Tie as tie
-use Rattle.trials.proofs.texts.shift.Reads as reads
-use Rattle.trials.proofs.texts.shift.Lts as lts
-use Rattle.trials.proofs.texts.at.Reads as at-reads
-use Rattle.trials.proofs.texts.put.Reads as put-reads
 
 abbrev Inv-loop : tie.InvT-loop
 Inv-loop text₀ n i₀ text i = (length text ≡ length text₀) × (i ≤ 2000)
