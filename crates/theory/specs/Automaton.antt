@@ -5,6 +5,7 @@ use mathlib.Core.Bool.{true, false, cond}
 use mathlib.Core.List.{List, [], _∷_, _++_, map, flatMap, List·Memᴰ}
 use lib.ListN.{length}
 use lib.Dec.{eqb}
+use Rattle.theory.specs.Limit.{last-letter}
 use Rattle.theory.specs.Expression.{Expression, same, ε, parts, letters}
 use Rattle.theory.specs.Distinct.{distinct, place}
 use Rattle.theory.specs.Language.{Word}
@@ -18,7 +19,7 @@ ascending first (suc n) = first ∷ ascending (suc first) n
 -- 01: "letters from 1 to 255".
 unfoldable pub alphabet : List ℕ
 unfolding ascending
-alphabet = ascending 1 255
+alphabet = ascending 1 last-letter
 
 -- 01: "letters from 1 to 255 for each, members in list order": all that is met from one state, in that order.
 unfoldable pub successors : Expression → List Expression

@@ -8,6 +8,7 @@ use lib.Dec.{eqb, ltb}
 use Rattle.theory.specs.Expression.{Expression, ∅}
 use Rattle.theory.specs.Distinct.{NoRepeats, Within}
 use Rattle.theory.specs.Refusal.{Refusal, refusal, success, or-else, columns-differ, room-small}
+use Rattle.theory.specs.Limit.{most-expressions, most-states, most-arcs}
 use Rattle.theory.specs.Column.{zeros, filled}
 use Rattle.theory.specs.Table.{Table, row, entry, Sound, trees, tree-at, tree, table-refusal, SameLengths}
 use Rattle.theory.specs.Automaton.{Arc, states, accepting, arcs, expressions}
@@ -42,13 +43,13 @@ pub record EvenLent (c : Lent) : Type 0 where
 
 -- 01: "Rooms: table length, or 65,535 for expressions and states and 16,777,216 for arcs if that is smaller."
 abbrev pub expression-room : Lent → ℕ
-expression-room c = min (length (c .rows .kind)) 65535
+expression-room c = min (length (c .rows .kind)) most-expressions
 
 abbrev pub state-room : Lent → ℕ
-state-room c = min (length (c .expression)) 65535
+state-room c = min (length (c .expression)) most-states
 
 abbrev pub arc-room : Lent → ℕ
-arc-room c = min (length (c .from)) 16777216
+arc-room c = min (length (c .from)) most-arcs
 
 -- 01: "Refusal 9 is given exactly when a need exceeds its room."
 unfoldable pub over-room : Expression → Lent → Bool

@@ -6,6 +6,7 @@ use mathlib.Core.List.{List, [], _∷_, _++_}
 use lib.ListN.{length, take}
 use lib.Dec.{T, eqb, leb}
 use Rattle.theory.specs.Expression.{Expression, Sign, ∅, ε, letter, binary, star, union, concatenation, shuffle, entries}
+use Rattle.theory.specs.Limit.{most-open}
 use Rattle.theory.specs.Refusal.{Refusal, refusal, not-grammar, too-deep, too-many-entries}
 use Rattle.theory.specs.Table.{Row, kind-of-sign, times}
 
@@ -110,7 +111,7 @@ pub data Reading : Type 0 where
 -- made no entry more than `room`.
 pub record Passed (room : ℕ) (s : Text) : Type 0 where
   pub viable : Viable s
-  pub shallow : (p : ℕ) → depth (take p s) ≤ 64
+  pub shallow : (p : ℕ) → depth (take p s) ≤ most-open
   pub fits : made s ≤ room
 
 -- The refusal table's lines for 13, 14 and 15: p is the earliest byte at which one of them is due, since the start before it has passed.
@@ -118,7 +119,7 @@ pub data Reads (room : ℕ) (t : Text) : Reading → Type 0 where
   whole : (e : Expression) → Writable e → written e ≡ t → Passed room t → Reads room t (read e)
   broken : (p : ℕ) → p < length t → Passed room (take p t) → ¬ Viable (take (suc p) t) → Reads room t (refused (refusal not-grammar p))
   stopped : Passed room t → ¬ Whole t → Reads room t (refused (refusal not-grammar (length t)))
-  deep : (p : ℕ) → p < length t → Passed room (take p t) → Viable (take (suc p) t) → 64 < depth (take (suc p) t) → Reads room t (refused (refusal too-deep p))
+  deep : (p : ℕ) → p < length t → Passed room (take p t) → Viable (take (suc p) t) → most-open < depth (take (suc p) t) → Reads room t (refused (refusal too-deep p))
   many : (p : ℕ) → p < length t → Passed room (take p t) → Viable (take (suc p) t) → room < made (take (suc p) t) → Reads room t (refused (refusal too-many-entries p))
 
 -- ---- The entries of an expression that was read

@@ -1,4 +1,5 @@
 pub mod Refusal
+pub mod Limit
 pub mod Column
 pub mod Expression
 pub mod Distinct

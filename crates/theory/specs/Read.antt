@@ -6,6 +6,7 @@ use mathlib.Core.List.{List, map}
 use lib.ListN.{length, take}
 use Rattle.theory.specs.Expression.{entries}
 use Rattle.theory.specs.Refusal.{Refusal, refusal, success, columns-differ, text-long}
+use Rattle.theory.specs.Limit.{most-entries, longest-text}
 use Rattle.theory.specs.Column.{zeros, filled}
 use Rattle.theory.specs.Table.{Table, table, Row}
 use Rattle.theory.specs.Grammar.{Text, Reading, read, refused, Reads, rows}
@@ -14,9 +15,9 @@ use Rattle.theory.specs.Grammar.{Text, Reading, read, refused, Reads, ro
 -- `Due text t r` says that r is the reading due for the text and the columns of t.
 pub data Due (text : Text) (t : Table) : Reading → Type 0 where
   differ : ((length (t .left) ≡ length (t .kind)) × (length (t .right) ≡ length (t .kind)) → ⊥) → Due text t (refused (refusal columns-differ 0))
-  long : length (t .left) ≡ length (t .kind) → length (t .right) ≡ length (t .kind) → 4096 < length text → Due text t (refused (refusal text-long 0))
-  short : {r : Reading} → length (t .left) ≡ length (t .kind) → length (t .right) ≡ length (t .kind) → length text ≤ 4096
-      → Reads (min 512 (length (t .kind))) text r → Due text t r
+  long : length (t .left) ≡ length (t .kind) → length (t .right) ≡ length (t .kind) → longest-text < length text → Due text t (refused (refusal text-long 0))
+  short : {r : Reading} → length (t .left) ≡ length (t .kind) → length (t .right) ≡ length (t .kind) → length text ≤ longest-text
+      → Reads (min most-entries (length (t .kind))) text r → Due text t r
 
 -- The answer as numbers.
 pub record Entered : Type 0 where

@@ -9,6 +9,7 @@ use lib.Dec.{eqb, leb, ltb}
 use Rattle.theory.specs.Expression.{Expression}
 use Rattle.theory.specs.Language.{Word}
 use Rattle.theory.specs.Automaton.{Arc, states, accepting, arcs}
+use Rattle.theory.specs.Limit.{most-states, most-arcs}
 use Rattle.theory.specs.Refusal.{Refusal, refusal, success, columns-differ, automaton-malformed, work-short}
 
 -- 01: "The matcher takes a state count, the accepting column, an arc count, the arc columns".
@@ -113,11 +114,11 @@ live h w = count-below (h .states) (reached h w)
 
 -- 01: "the state count is 0 or over 65,535 or over the accepting column".
 unfoldable pub states-fit : Handed → Bool
-states-fit h = not (eqb (h .states) 0) && leb (h .states) 65535 && leb (h .states) (length (h .accepting))
+states-fit h = not (eqb (h .states) 0) && leb (h .states) most-states && leb (h .states) (length (h .accepting))
 
 -- 01: "the arc count is over the arc columns or over 16,777,216".
 unfoldable pub arcs-fit : Handed → Bool
-arcs-fit h = leb (h .arcs) (length (h .from)) && leb (h .arcs) 16777216
+arcs-fit h = leb (h .arcs) (length (h .from)) && leb (h .arcs) most-arcs
 
 -- 01: "a used accepting value is not 0 or 1".
 unfoldable pub accepting-fits : Handed → Bool

@@ -7,6 +7,7 @@ use mathlib.Core.Option.{Option, none, some}
 use lib.ListN.{length}
 use lib.Dec.{eqb, ltb}
 use Rattle.theory.specs.Expression.{Expression, Sign, ∅, ε, letter, binary, star, union, concatenation, shuffle}
+use Rattle.theory.specs.Limit.{most-open}
 use Rattle.theory.specs.Refusal.{refusal, not-grammar, too-deep, too-many-entries}
 use Rattle.theory.specs.Grammar.{Text, Reading, read, refused, byte-open, byte-close, byte-*, byte-+, byte-dot, byte-&, byte-0, byte-1, is-letter, makes-entry}
 
@@ -96,7 +97,7 @@ scan-from room p k c (b ∷ t) =
     elim (next c (token b)) [
       | none ↦ refused (refusal not-grammar p)
       | some c′ ↦
-          elim (ltb 64 (open-at c′)) [
+          elim (ltb most-open (open-at c′)) [
             | true ↦ refused (refusal too-deep p)
             | false ↦ elim (ltb room k′) [ true ↦ refused (refusal too-many-entries p) | false ↦ scan-from room (suc p) k′ c′ t ]
           ]

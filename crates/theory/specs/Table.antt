@@ -6,6 +6,7 @@ use mathlib.Core.List.{List, [], _∷_, _++_, map, List·Memᴰ}
 use lib.ListN.{length, getD}
 use lib.Dec.{eqb, leb, ltb}
 use Rattle.theory.specs.Expression.{Expression, Sign, ∅, ε, letter, binary, star, union, concatenation, shuffle}
+use Rattle.theory.specs.Limit.{most-entries, last-letter}
 use Rattle.theory.specs.Refusal.{Refusal, refusal, success, or-else, columns-differ, table-empty, table-long, kind-unknown, field-outside, child-not-smaller, empty-language-inside, not-named-once}
 
 -- 01: "Three columns of equal length: kind (8 bits), left (16 bits), right (16 bits)."
@@ -59,7 +60,7 @@ entry k l r = record { kind = k; left = l; right = r }
 pub data Sound (i : ℕ) (w : Row) : Type 0 where
   of-∅ : w ≡ entry 0 0 0 → Sound i w
   of-ε : w ≡ entry 1 0 0 → Sound i w
-  of-letter : (a : ℕ) → 1 ≤ a → a ≤ 255 → w ≡ entry 2 a 0 → Sound i w
+  of-letter : (a : ℕ) → 1 ≤ a → a ≤ last-letter → w ≡ entry 2 a 0 → Sound i w
   of-sign : (s : Sign) (l r : ℕ) → l < i → r < i → w ≡ entry (kind-of-sign s) l r → Sound i w
   of-star : (l : ℕ) → l < i → w ≡ entry 6 l 0 → Sound i w
 
@@ -100,7 +101,7 @@ tree t = getD (trees t (size t)) (pred (size t)) ∅
 unfoldable pub fields-fit : Meaning → ℕ → ℕ → Bool
 fields-fit ∅-kind l r = eqb l 0 && eqb r 0
 fields-fit ε-kind l r = eqb l 0 && eqb r 0
-fields-fit letter-kind l r = leb 1 l && leb l 255 && eqb r 0
+fields-fit letter-kind l r = leb 1 l && leb l last-letter && eqb r 0
 fields-fit (sign-kind s) l r = true
 fields-fit star-kind l r = eqb r 0
 fields-fit unknown-kind l r = true
@@ -159,7 +160,7 @@ unfolding first-fault entry-fault naming-fault
 table-refusal t =
     cond (not (eqb (length (t .left)) (size t) && eqb (length (t .right)) (size t))) (refusal columns-differ 0)
     (cond (eqb (size t) 0) (refusal table-empty 0)
-    (cond (ltb 512 (size t)) (refusal table-long 0)
+    (cond (ltb most-entries (size t)) (refusal table-long 0)
     (or-else (first-fault (λ i. entry-fault (size t) i (row t i)) 0 (size t)) (first-fault (naming-fault t) 0 (pred (size t))))))
 
 -- ---- A table without refusal
@@ -180,6 +181,6 @@ pub record Faultless (n i : ℕ) (w : Row) : Type 0 where
 pub record WellFormed (t : Table) : Type 0 where
   pub lengths : SameLengths t
   pub nonempty : 0 < size t
-  pub short : size t ≤ 512
+  pub short : size t ≤ most-entries
   pub faultless : (i : ℕ) → i < size t → Faultless (size t) i (row t i)
   pub once : (i : ℕ) → i < pred (size t) → times i (named t (size t)) ≡ 1
