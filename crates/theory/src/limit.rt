@@ -4,10 +4,13 @@
 pub const ENTRIES: usize = 512;
 // "The text has at most 4,096 bytes, at most 64 parentheses open at once."
 pub const TEXT: usize = 4096;
+
 pub const OPEN: usize = 64;
 // "Rooms: table length, or 65,535 for expressions and states and 16,777,216 for arcs if that is smaller."
 pub const EXPRESSIONS: usize = 65535;
+
 pub const STATES: usize = 65535;
+
 pub const ARCS: usize = 16777216;
 // A letter is "1 to 255".
 pub const LETTER: u16 = 255;
