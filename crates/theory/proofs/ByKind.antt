@@ -5,7 +5,7 @@ use mathlib.Core.Path.{_≡_, refl, ap}
 use mathlib.Core.Bool.{Bool, true, _&&_, and-true}
 use mathlib.Core.List.{[], _∷_}
 use lib.Dec.{eqb, leb, ltb}
-use Rattle.theory.specs.Table.{Row, meaning, fields-fit, children, row-children, all-below}
+use Rattle.theory.specs.Table.{Row, meaning, fields-fit, children, row-children, all-smaller}
 
 -- ---- The fields that hold no child
 
@@ -80,10 +80,10 @@ module _ (w : Row) where
 
 -- ---- Children smaller than their parent
 
-pub one-below : (i c : ℕ) → all-below i (c ∷ []) ≡ ltb c i
-unfolding all-below
+pub one-below : (i c : ℕ) → all-smaller i (c ∷ []) ≡ ltb c i
+unfolding all-smaller
 one-below i c = and-true (ltb c i)
 
-pub two-below : (i c d : ℕ) → all-below i (c ∷ d ∷ []) ≡ (ltb c i && ltb d i)
-unfolding all-below
+pub two-below : (i c d : ℕ) → all-smaller i (c ∷ d ∷ []) ≡ (ltb c i && ltb d i)
+unfolding all-smaller
 two-below i c d = ap (λ (b : Bool). ltb c i && b) (and-true (ltb d i))

@@ -1,5 +1,5 @@
 -- Laws of lists without repeats: what `distinct` keeps, that it repeats nothing, what it makes of a list that goes on, and that a list
--- without repeats is no longer than a list that holds all its members. Assumes nothing.
+-- without repeats is no longer than a list that holds all its members.
 use Prim.Native.Nat.{ℕ, zero, suc, _≤_, _<_, zero-le, suc-le-suc}
 use native.Mathlib.Nat.{le-trans, le-refl, le-of-suc-le-suc, not-suc-le-zero}
 use native.Mathlib.Omega.{arith}
@@ -25,6 +25,22 @@ module _ {A : Type 0} (same : Discrete A) where
       go (no n) (no k) = no (λ h. ⊎-elim n k (List·Memᴰ·cases-cons h))
 
   -- ---- `without`
+
+  pub without-here : (x y : A) (ys : List A) → x ≡ y → without same x (y ∷ ys) ≡ without same x ys
+  unfolding without
+  without-here x y ys e = go (same x y)
+    where
+      go : (d : Dec (x ≡ y)) → unless d y (without same x ys) ≡ without same x ys
+      go (yes p) = refl
+      go (no n) = absurd (n e)
+
+  pub without-other : (x y : A) (ys : List A) → (x ≡ y → ⊥) → without same x (y ∷ ys) ≡ y ∷ without same x ys
+  unfolding without
+  without-other x y ys n = go (same x y)
+    where
+      go : (d : Dec (x ≡ y)) → unless d y (without same x ys) ≡ y ∷ without same x ys
+      go (yes p) = absurd (n p)
+      go (no k) = refl
 
   -- What is left is a member other than x.
   pub without-of : (x : A) (ys : List A) {z : A} → List·Memᴰ z (without same x ys) → List·Memᴰ z ys × (z ≡ x → ⊥)

@@ -1,16 +1,15 @@
 -- The test for the empty word and the derivative are right for the languages of expressions (004's slide before Proposition 4). Each operator's
 -- part is proved in its own file below; here they are put together.
 use Prim.Native.Nat.{ℕ}
-use mathlib.Core.Path.{_≡_, refl, sym}
-use mathlib.Core.Logic.{_↔_, Iff·trans, Iff·symm}
-use mathlib.Core.Bool.{Bool, true, false, false≢true}
+use mathlib.Core.Path.{_≡_, refl}
+use mathlib.Core.Logic.{_↔_, Iff·trans}
+use mathlib.Core.Bool.{true, false≢true}
 use mathlib.Core.List.{[], _∷_, List·Memᴰ, nil≢cons}
-use Rattle.theory.specs.Expression.{Expression, Sign, ∅, ε, letter, binary, star, union, concatenation, shuffle}
+use Rattle.theory.specs.Expression.{Expression, ∅, ε, letter, binary, star, union, concatenation, shuffle}
 use Rattle.theory.specs.Language.{Word, In, Shuffled}
-use Rattle.theory.specs.Derivative.{empty-word, joined, derivative}
+use Rattle.theory.specs.Derivative.{empty-word, listed, derivative}
 use Some.{⊎-iff}
 use Together.{together-test}
-use Joined.{Unital, joined-in}
 use Step.{Derives, distinct-step}
 use Leaf.{∅-step, ε-step, letter-step}
 use Union.{or-true-iff, union-step}
@@ -40,28 +39,18 @@ empty-word-right (binary shuffle x y) =
     together-test Shuffled (In x) (In y) shuffled-nil (empty-word x) (empty-word y) (empty-word-right x) (empty-word-right y)
 empty-word-right (star x) = (λ e. star-nil x, λ s. refl)
 
-derives : (a : ℕ) (e : Expression) → Derives a (derivative a e) e
-unfolding derivative
+-- Each of 01's lines for the list is right.
+derives : (a : ℕ) (e : Expression) → Derives a (listed a e) e
+unfolding listed
 derives a ∅ = ∅-step a
 derives a ε = ε-step a
 derives a (letter b) = letter-step a b
-derives a (binary union x y) = distinct-step (union-step (derives a x) (derives a y))
-derives a (binary concatenation x y) =
-    distinct-step (concatenation-step (empty-word x) (empty-word-right x) (derives a x) (derives a y))
-derives a (binary shuffle x y) = distinct-step (shuffle-step (derives a x) (derives a y))
-derives a (star x) = distinct-step (star-step (derives a x))
+derives a (binary union x y) = union-step (derives a x) (derives a y)
+derives a (binary concatenation x y) = concatenation-step (empty-word x) (empty-word-right x) (derives a x) (derives a y)
+derives a (binary shuffle x y) = shuffle-step (derives a x) (derives a y)
+derives a (star x) = star-step (derives a x)
 
 -- The language of the derivative by a is the words w with aw in the language.
 pub derivative-right : (a : ℕ) (e : Expression) (w : Word) → ((m : Expression) × List·Memᴰ m (derivative a e) × In m w) ↔ In e (a ∷ w)
-derivative-right a e = (derives a e) .words
-
--- Joining changes no answer for the empty word, since it changes no language.
-pub joined-empty-word : (s : Sign) → Unital s → (x y : Expression) → empty-word (joined s x y) ≡ empty-word (binary s x y)
-joined-empty-word s unital x y =
-    same-truth (empty-word (joined s x y)) (empty-word (binary s x y))
-    (Iff·trans (empty-word-right (joined s x y)) (Iff·trans (joined-in s unital x y []) (Iff·symm (empty-word-right (binary s x y)))))
-  where
-    same-truth : (b c : Bool) → (b ≡ true) ↔ (c ≡ true) → b ≡ c
-    same-truth true c h = sym (h .0 refl)
-    same-truth false true h = h .1 refl
-    same-truth false false h = refl
+unfolding derivative
+derivative-right a e = distinct-step (derives a e) .words

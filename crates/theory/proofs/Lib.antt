@@ -1,6 +1,7 @@
 pub mod Below
 pub mod Reached
 pub mod Distinct
+pub mod Repeats
 pub mod Members
 pub mod Language
 pub mod Derivative

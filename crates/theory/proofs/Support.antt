@@ -14,7 +14,7 @@ use lib.Pow.{pow-add}
 use Rattle.theory.specs.Expression.{Expression, Sign, ∅, ε, letter, binary, star, union, concatenation, shuffle, letters}
 use Rattle.theory.specs.Derivative.{empty-word, joined, derivative}
 use Rattle.theory.specs.Distinct.{Within}
-use Rattle.theory.proofs.Derivative.{gathered, derivative-of, Joins, derivative-joined}
+use Rattle.theory.proofs.Derivative.{gathered, derivative-of, joined-within}
 use Rattle.theory.proofs.Members.{within-append, within-both, within-map, pairs, to-pairs, pairs-of, length-pairs}
 
 -- m followed by y
@@ -60,8 +60,9 @@ letter-stays b = record {
     go false z m = absurd (List·Memᴰ·not-nil m)
 
 -- The derivative of what is joined, by that of the expression that the sign stands in.
-of-joined : (s : Sign) → Joins s → (a : ℕ) (m n : Expression) {z : Expression} {t : List Expression} → joined s m n ≡ z → Within (derivative a (binary s m n)) t → Within (derivative a z) t
-of-joined s j a m n {t = t} e = subst (λ d. Within d t) (sym (derivative-joined s j a m n) ∙ ap (derivative a) e)
+of-joined : (s : Sign) (a : ℕ) (m n : Expression) {z : Expression} {t : List Expression} → joined s m n ≡ z → Within (derivative a (binary s m n)) t
+    → Within (derivative a z) t
+of-joined s a m n {t = t} e h = subst (λ d. Within (derivative a d) t) e (λ y k. h y (joined-within s a m n y k))
 
 concatenation-within : (a : ℕ) (m y : Expression) {p q : List Expression} → Within (derivative a m) p → Within (derivative a y) q
     → Within (derivative a (binary concatenation m y)) (map (followed-by y) p ++ q)
@@ -121,7 +122,7 @@ module _ {x y : Expression} {p q : List Expression} (left : Stays x p) (right : 
     first = λ a. concatenation-within a x y (left .first a) (right .first a);
     onward = λ m h a. ⊎-elim
         (λ t. let r = Memᴰ·of-map (followed-by y) p t in
-        of-joined concatenation tt a (r .0) y (r .2) (concatenation-within a (r .0) y (left .onward (r .0) (r .1) a) (right .first a)))
+        of-joined concatenation a (r .0) y (r .2) (concatenation-within a (r .0) y (left .onward (r .0) (r .1) a) (right .first a)))
         (λ t z n. Memᴰ·append-right (map (followed-by y) p) (right .onward m t a z n)) (List·Memᴰ·append-cases (map (followed-by y) p) h);
   }
 
@@ -138,7 +139,7 @@ module _ {x y : Expression} {p q : List Expression} (left : Stays x p) (right : 
   shuffle-stays : Stays (binary shuffle x y) (shuffled x p y q)
   shuffle-stays = record {
     first = λ a. shuffle-within a (List·Memᴰ·head refl) (List·Memᴰ·head refl);
-    onward = λ z h a. let r = shuffled-of x y p q h in of-joined shuffle tt a (r .0) (r .1) (r .4) (shuffle-within a (r .2) (r .3));
+    onward = λ z h a. let r = shuffled-of x y p q h in of-joined shuffle a (r .0) (r .1) (r .4) (shuffle-within a (r .2) (r .3));
   }
 
 module _ {x : Expression} {p : List Expression} (inner : Stays x p) where
@@ -150,7 +151,7 @@ module _ {x : Expression} {p : List Expression} (inner : Stays x p) where
   star-stays = record {
     first = star-first;
     onward = λ m h a. let r = Memᴰ·of-map (followed-by (star x)) p h in
-        of-joined concatenation tt a (r .0) (star x) (r .2)
+        of-joined concatenation a (r .0) (star x) (r .2)
         (λ z n. within-both (map (followed-by (star x)) p) (λ z m. m) (λ z m. m) z
         (concatenation-within a (r .0) (star x) (inner .onward (r .0) (r .1) a) (star-first a) z n));
   }

@@ -14,7 +14,7 @@ use borrow.Author.Tests.{ne-eqb, eqb-true, eqb-false, leb-true, ltb-true, ltb-fa
 use Rattle.theory.specs.Expression.{Expression, ∅, entries, letters}
 use Rattle.theory.specs.Refusal.{Refusal, refusal, or-else, kind-unknown, field-outside, child-not-smaller, empty-language-inside}
 use Rattle.theory.specs.Record.{count-below}
-use Rattle.theory.specs.Table.{Table, Row, row, size, tree, tree-at, trees, row-tree, node, Meaning, ∅-kind, ε-kind, letter-kind, sign-kind, star-kind, unknown-kind, meaning, fields-fit, children, row-children, all-below, entry-fault, named, naming-fault, table-refusal, SameLengths, Faultless, WellFormed}
+use Rattle.theory.specs.Table.{Table, Row, row, size, tree, tree-at, trees, row-tree, node, Meaning, ∅-kind, ε-kind, letter-kind, sign-kind, star-kind, unknown-kind, meaning, fields-fit, children, row-children, all-smaller, entry-fault, named, naming-fault, table-refusal, SameLengths, Faultless, WellFormed}
 use Rattle.theory.proofs.FirstFault.{none-at}
 use Rattle.theory.proofs.Times.{once-of}
 use Rattle.theory.proofs.TableRefusal.{refused-differ, refused-empty, refused-long, refused-later}
@@ -22,12 +22,12 @@ use Rattle.theory.proofs.Sum.{sum-below, sum-over, sum-cong, sum-add, s
 use Rattle.theory.proofs.Trees.{trees-below, trees-each}
 
 -- 01: "A child's number is smaller than its parent's."
-pub smaller-of : (i : ℕ) (cs : List ℕ) → all-below i cs ≡ true → (c : ℕ) → List·Memᴰ c cs → c < i
-unfolding all-below
+pub smaller-of : (i : ℕ) (cs : List ℕ) → all-smaller i cs ≡ true → (c : ℕ) → List·Memᴰ c cs → c < i
+unfolding all-smaller
 smaller-of i [] e c m = absurd (List·Memᴰ·not-nil m)
 smaller-of i (d ∷ ds) e c m = go (ltb d i) refl e (λ h k. smaller-of i ds h c k) (List·Memᴰ·cases-cons m)
   where
-    go : (b : Bool) → ltb d i ≡ b → (b && all-below i ds) ≡ true → (all-below i ds ≡ true → List·Memᴰ c ds → c < i) → (c ≡ d) ⊎ List·Memᴰ c ds → c < i
+    go : (b : Bool) → ltb d i ≡ b → (b && all-smaller i ds) ≡ true → (all-smaller i ds ≡ true → List·Memᴰ c ds → c < i) → (c ≡ d) ⊎ List·Memᴰ c ds → c < i
     go true q h rest (inl p) = subst (λ (k : ℕ). k < i) (sym p) (ltb-true d i q)
     go true q h rest (inr k) = rest h k
     go false q h rest k = absurd (false≢true h)
@@ -35,10 +35,10 @@ smaller-of i (d ∷ ds) e c m = go (ltb d i) refl e (λ h k. smaller-of i ds h c
 faultless-of : (n i : ℕ) (w : Row) → entry-fault n i w ≡ 0 → Faultless n i w
 unfolding entry-fault
 faultless-of n i w e =
-    go (ltb 6 (w .kind)) (fields-fit (meaning (w .kind)) (w .left) (w .right)) (all-below i (row-children w)) (eqb (w .kind) 0) (ltb 1 n) refl refl refl
+    go (ltb 6 (w .kind)) (fields-fit (meaning (w .kind)) (w .left) (w .right)) (all-smaller i (row-children w)) (eqb (w .kind) 0) (ltb 1 n) refl refl refl
     refl refl e
   where
-    go : (a b c d e : Bool) → ltb 6 (w .kind) ≡ a → fields-fit (meaning (w .kind)) (w .left) (w .right) ≡ b → all-below i (row-children w) ≡ c
+    go : (a b c d e : Bool) → ltb 6 (w .kind) ≡ a → fields-fit (meaning (w .kind)) (w .left) (w .right) ≡ b → all-smaller i (row-children w) ≡ c
         → eqb (w .kind) 0 ≡ d → ltb 1 n ≡ e
         → cond a kind-unknown (cond (not b) field-outside (cond (not c) child-not-smaller (cond (d && e) empty-language-inside 0))) ≡ 0
         → Faultless n i w

@@ -4,7 +4,7 @@ use mathlib.Core.Path.{_≡_}
 use mathlib.Core.Bool.{Bool, true, false, _&&_, _||_, cond}
 use mathlib.Core.List.{List, [], _∷_, _++_, map}
 use lib.Dec.{eqb}
-use Rattle.theory.specs.Expression.{Expression, same, Sign, ∅, ε, letter, binary, star, union, concatenation, shuffle}
+use Rattle.theory.specs.Expression.{Expression, same, pair, Sign, ∅, ε, letter, binary, star, union, concatenation, shuffle}
 use Rattle.theory.specs.Distinct.{distinct}
 
 -- 01: "the answer for the empty word follows from an entry's children down to the leaves".
@@ -25,24 +25,31 @@ literal-ε (letter a) = false
 literal-ε (binary s x y) = false
 literal-ε (star x) = false
 
+-- 01: "followed by the literal empty word, or shuffled with it": the signs whose join it leaves out.
+abbrev pub has-unit : Sign → Bool
+has-unit union = false
+has-unit concatenation = true
+has-unit shuffle = true
+
 -- 01: "When a member is joined: followed by the literal empty word, or shuffled with it on either side, it stays as it is (004);
 -- the literal empty word followed by y is y (004 is silent; this decides). No other simplification".
--- The rules are the same for both signs, so that one function writes them.
 unfoldable pub joined : Sign → Expression → Expression → Expression
-unfolding literal-ε
-joined s x y = cond (literal-ε y) x (cond (literal-ε x) y (binary s x y))
+unfolding literal-ε pair
+joined s x y = cond (has-unit s && literal-ε y) x (cond (has-unit s && literal-ε x) y (pair s x y))
 
--- 01: "The derivative by a of an expression is a list without repeats, a repeated member kept at its first place".
+-- 01's lines for the list, with its repeats.
+unfoldable pub listed : ℕ → Expression → List Expression
+unfolding empty-word joined
+listed a ∅ = []
+listed a ε = []
+listed a (letter b) = cond (eqb a b) (ε ∷ []) []
+listed a (binary union x y) = listed a x ++ listed a y
+listed a (binary concatenation x y) = map (λ m. joined concatenation m y) (listed a x) ++ cond (empty-word x) (listed a y) []
+listed a (binary shuffle x y) = map (λ m. joined shuffle m y) (listed a x) ++ map (λ m. joined shuffle x m) (listed a y)
+listed a (star x) = map (λ m. joined concatenation m (star x)) (listed a x)
+
+-- 01: "The derivative by a of an expression is a list without repeats, a repeated member kept at its first place". The law
+-- `derivative-gathered` says that the parts' lists may have their repeats taken out before or after.
 unfoldable pub derivative : ℕ → Expression → List Expression
-unfolding empty-word joined distinct same
-derivative a ∅ = []
-derivative a ε = []
-derivative a (letter b) = cond (eqb a b) (ε ∷ []) []
-derivative a (binary union x y) = distinct same (derivative a x ++ derivative a y)
-derivative a (binary concatenation x y) =
-    distinct same
-    (map (λ m. joined concatenation m y) (derivative a x) ++ cond (empty-word x) (derivative a y) [])
-derivative a (binary shuffle x y) =
-    distinct same
-    (map (λ m. joined shuffle m y) (derivative a x) ++ map (λ m. joined shuffle x m) (derivative a y))
-derivative a (star x) = distinct same (map (λ m. joined concatenation m (star x)) (derivative a x))
+unfolding listed distinct same
+derivative a e = distinct same (listed a e)

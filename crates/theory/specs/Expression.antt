@@ -17,6 +17,10 @@ pub data Expression : Type 0 where
   star : Expression → Expression
   deriving Discrete as Expression-discrete
 
+-- The tree of a sign, wherever one is made: by a join and by a row of a table.
+unfoldable pub pair : Sign → Expression → Expression → Expression
+pair s x y = binary s x y
+
 -- 01: "Two expressions are the same when their trees are."
 unfoldable pub same : Discrete Expression
 unfolding ℕ-discrete

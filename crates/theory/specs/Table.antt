@@ -5,7 +5,8 @@ use mathlib.Core.Bool.{Bool, true, false, cond, not, _&&_}
 use mathlib.Core.List.{List, [], _∷_, _++_, map, List·Memᴰ}
 use lib.ListN.{length, getD}
 use lib.Dec.{eqb, leb, ltb}
-use Rattle.theory.specs.Expression.{Expression, Sign, ∅, ε, letter, binary, star, union, concatenation, shuffle}
+use Rattle.theory.specs.Kind
+use Rattle.theory.specs.Expression.{Expression, pair, Sign, ∅, ε, letter, star, union, concatenation, shuffle}
 use Rattle.theory.specs.Limit.{most-entries, last-letter}
 use Rattle.theory.specs.Refusal.{Refusal, refusal, success, or-else, columns-differ, table-empty, table-long, kind-unknown, field-outside, child-not-smaller, empty-language-inside, not-named-once}
 
@@ -37,39 +38,38 @@ pub data Meaning : Type 0 where
   sign-kind : Sign → Meaning
   star-kind unknown-kind : Meaning
 
+-- The same column from kind 0 on.
+abbrev pub kinds : List Meaning
+kinds =
+    ∅-kind ∷ ε-kind ∷ letter-kind ∷ sign-kind union ∷ sign-kind concatenation ∷ sign-kind shuffle ∷ star-kind ∷ []
+
 unfoldable pub meaning : ℕ → Meaning
-meaning zero = ∅-kind
-meaning (suc zero) = ε-kind
-meaning (suc (suc zero)) = letter-kind
-meaning (suc (suc (suc zero))) = sign-kind union
-meaning (suc (suc (suc (suc zero)))) = sign-kind concatenation
-meaning (suc (suc (suc (suc (suc zero))))) = sign-kind shuffle
-meaning (suc (suc (suc (suc (suc (suc zero)))))) = star-kind
-meaning (suc (suc (suc (suc (suc (suc (suc k))))))) = unknown-kind
+meaning k = getD kinds k unknown-kind
 
 -- The kind of a sign's entry: "3, 4, 5 | union, concatenation, shuffle".
 unfoldable pub kind-of-sign : Sign → ℕ
-kind-of-sign union = 3
-kind-of-sign concatenation = 4
-kind-of-sign shuffle = 5
+kind-of-sign union = Kind.union
+kind-of-sign concatenation = Kind.concatenation
+kind-of-sign shuffle = Kind.shuffle
 
 abbrev pub entry : ℕ → ℕ → ℕ → Row
 entry k l r = record { kind = k; left = l; right = r }
 
 -- 01's table of kinds as what a row may be; "A child's number is smaller than its parent's", here i.
 pub data Sound (i : ℕ) (w : Row) : Type 0 where
-  of-∅ : w ≡ entry 0 0 0 → Sound i w
-  of-ε : w ≡ entry 1 0 0 → Sound i w
-  of-letter : (a : ℕ) → 1 ≤ a → a ≤ last-letter → w ≡ entry 2 a 0 → Sound i w
+  of-∅ : w ≡ entry Kind.empty-language 0 0 → Sound i w
+  of-ε : w ≡ entry Kind.empty-word 0 0 → Sound i w
+  of-letter : (a : ℕ) → 1 ≤ a → a ≤ last-letter → w ≡ entry Kind.letter a 0 → Sound i w
   of-sign : (s : Sign) (l r : ℕ) → l < i → r < i → w ≡ entry (kind-of-sign s) l r → Sound i w
-  of-star : (l : ℕ) → l < i → w ≡ entry 6 l 0 → Sound i w
+  of-star : (l : ℕ) → l < i → w ≡ entry Kind.star l 0 → Sound i w
 
 -- The tree of a row over the trees of the rows before it.
 unfoldable pub node : Meaning → ℕ → ℕ → List Expression → Expression
+unfolding pair
 node ∅-kind l r ts = ∅
 node ε-kind l r ts = ε
 node letter-kind l r ts = letter l
-node (sign-kind s) l r ts = binary s (getD ts l ∅) (getD ts r ∅)
+node (sign-kind s) l r ts = pair s (getD ts l ∅) (getD ts r ∅)
 node star-kind l r ts = star (getD ts l ∅)
 node unknown-kind l r ts = ∅
 
@@ -119,18 +119,19 @@ unfoldable pub row-children : Row → List ℕ
 unfolding meaning children
 row-children w = children (meaning (w .kind)) (w .left) (w .right)
 
-unfoldable pub all-below : ℕ → List ℕ → Bool
-all-below i [] = true
-all-below i (c ∷ cs) = ltb c i && all-below i cs
+-- "A child's number is smaller than its parent's", here i.
+unfoldable pub all-smaller : ℕ → List ℕ → Bool
+all-smaller i [] = true
+all-smaller i (c ∷ cs) = ltb c i && all-smaller i cs
 
 -- 01: "entries from 0 upward, each checked for 4, 5, 6, 7": entry i of a table of n; 0 where nothing is wrong with it.
 unfoldable pub entry-fault : ℕ → ℕ → Row → ℕ
-unfolding meaning fields-fit row-children all-below
+unfolding meaning fields-fit row-children all-smaller
 entry-fault n i w =
-    cond (ltb 6 (w .kind)) kind-unknown
+    cond (ltb Kind.last (w .kind)) kind-unknown
     (cond (not (fields-fit (meaning (w .kind)) (w .left) (w .right))) field-outside
-    (cond (not (all-below i (row-children w))) child-not-smaller
-    (cond (eqb (w .kind) 0 && ltb 1 n) empty-language-inside 0)))
+    (cond (not (all-smaller i (row-children w))) child-not-smaller
+    (cond (eqb (w .kind) Kind.empty-language && ltb 1 n) empty-language-inside 0)))
 
 -- How often a number stands in a list.
 unfoldable pub times : ℕ → List ℕ → ℕ
@@ -172,10 +173,10 @@ SameLengths t = (length (t .left) ≡ size t) × (length (t .right) ≡ size t)
 -- Entry i of a table of n, where none of 4 to 7 is due. 01: "A child's number is smaller than its parent's"; "Kind 0 may stand only as the
 -- single entry of a one-entry table".
 pub record Faultless (n i : ℕ) (w : Row) : Type 0 where
-  pub known : w .kind ≤ 6
+  pub known : w .kind ≤ Kind.last
   pub fits : fields-fit (meaning (w .kind)) (w .left) (w .right) ≡ true
   pub smaller : (c : ℕ) → List·Memᴰ c (row-children w) → c < i
-  pub alone : w .kind ≡ 0 → n ≤ 1
+  pub alone : w .kind ≡ Kind.empty-language → n ≤ 1
 
 -- 01: "A table has 1 to 512 entries"; "Every entry but the last is named as a child exactly once".
 pub record WellFormed (t : Table) : Type 0 where

@@ -8,7 +8,7 @@ use mathlib.Core.Logic.{_⊎_, inl, inr, ⊎-elim}
 use mathlib.Core.List.{List, _∷_, _++_, flatMap, List·Memᴰ, List·Memᴰ·head, List·Memᴰ·tail, List·Memᴰ·append-cases, List·Memᴰ·eq-of-singleton, Memᴰ·cast, Memᴰ·append-left, Memᴰ·append-right}
 use lib.ListN.{length, length-append}
 use lib.Pow.{pow-mono}
-use Rattle.theory.specs.Expression.{Expression, Sign, ∅, ε, letter, binary, star, concatenation, letters, parts, entries}
+use Rattle.theory.specs.Expression.{Expression, pair, Sign, ∅, ε, letter, binary, star, concatenation, letters, parts, entries}
 use Rattle.theory.specs.Derivative.{joined}
 use Rattle.theory.specs.Distinct.{Within}
 use Rattle.theory.proofs.Derivative.{joined-cases}
@@ -27,11 +27,11 @@ part-whole (letter a) = List·Memᴰ·head refl
 part-whole (binary s x y) = Memᴰ·append-right (parts x ++ parts y) (List·Memᴰ·head refl)
 part-whole (star x) = Memᴰ·append-right (parts x) (List·Memᴰ·head refl)
 
-pub part-left : (s : Sign) (x y : Expression) → Within (parts x) (parts (binary s x y))
+part-left : (s : Sign) (x y : Expression) → Within (parts x) (parts (binary s x y))
 unfolding parts
 part-left s x y z h = Memᴰ·append-left _ (Memᴰ·append-left (parts y) h)
 
-pub part-right : (s : Sign) (x y : Expression) → Within (parts y) (parts (binary s x y))
+part-right : (s : Sign) (x y : Expression) → Within (parts y) (parts (binary s x y))
 unfolding parts
 part-right s x y z h = Memᴰ·append-left _ (Memᴰ·append-right (parts x) h)
 
@@ -39,9 +39,24 @@ pub part-inner : (x : Expression) → Within (parts x) (parts (star x))
 unfolding parts
 part-inner x z h = Memᴰ·append-left _ h
 
-parts-of : (s : Sign) (x y : Expression) {z : Expression} → List·Memᴰ z (parts (binary s x y)) → (List·Memᴰ z (parts x) ⊎ List·Memᴰ z (parts y)) ⊎ (z ≡ binary s x y)
+parts-of : (s : Sign) (x y : Expression) {z : Expression} → List·Memᴰ z (parts (binary s x y))
+    → (List·Memᴰ z (parts x) ⊎ List·Memᴰ z (parts y)) ⊎ (z ≡ binary s x y)
 unfolding parts
 parts-of s x y h = ⊎-elim (λ t. inl (List·Memᴰ·append-cases (parts x) t)) (λ t. inr (List·Memᴰ·eq-of-singleton t)) (List·Memᴰ·append-cases (parts x ++ parts y) h)
+
+-- The same of a sign's tree, wherever one is made.
+pub pair-left : (s : Sign) (x y : Expression) → Within (parts x) (parts (pair s x y))
+unfolding pair
+pair-left = part-left
+
+pub pair-right : (s : Sign) (x y : Expression) → Within (parts y) (parts (pair s x y))
+unfolding pair
+pair-right = part-right
+
+pair-parts : (s : Sign) (x y : Expression) {z : Expression} → List·Memᴰ z (parts (pair s x y))
+    → (List·Memᴰ z (parts x) ⊎ List·Memᴰ z (parts y)) ⊎ (z ≡ pair s x y)
+unfolding pair
+pair-parts = parts-of
 
 -- A part has no more letters.
 part-letters : (e p : Expression) → List·Memᴰ p (parts e) → length (letters p) ≤ length (letters e)
@@ -72,8 +87,8 @@ held-within w (member p h k) = member p (w p h) k
 
 held-joined : (s : Sign) (e m n : Expression) → AllHeld e m → AllHeld e n → List·Memᴰ (joined s m n) (support e) → AllHeld e (joined s m n)
 held-joined s e =
-    joined-cases s (λ m n j. AllHeld e m → AllHeld e n → List·Memᴰ j (support e) → AllHeld e j) (λ m l r k. l) (λ n l r k. r)
-    (λ m n l r k z h. ⊎-elim (⊎-elim (l z) (r z)) (λ t. member e (part-whole e) (List·Memᴰ·tail (Memᴰ·cast t k))) (parts-of s m n h))
+    joined-cases s (λ m n j. AllHeld e m → AllHeld e n → List·Memᴰ j (support e) → AllHeld e j) (λ u m l r k. l) (λ u n l r k. r)
+    (λ m n l r k z h. ⊎-elim (⊎-elim (l z) (r z)) (λ t. member e (part-whole e) (List·Memᴰ·tail (Memᴰ·cast t k))) (pair-parts s m n h))
 
 held-inherited : Inherited AllHeld
 unfolding parts

@@ -50,7 +50,7 @@ concatenation-step {a} {x} {y} {xs} {ys} b h dx dy = record {
   words = λ w.
       Iff·trans (some-append (λ m. In m w) (map (λ m. joined concatenation m y) xs) (cond b ys []))
       (Iff·trans
-      (⊎-iff (left-step concatenation Appended (joined-in concatenation concatenation-unital) dx y w)
+      (⊎-iff (left-step concatenation Appended (joined-in concatenation (λ h. concatenation-unital)) dx y w)
       (Iff·trans (some-cond (λ m. In m w) b ys) (Iff·and h (dy .words w))))
       (Iff·symm (concatenation-cons (In x) (In y) a w)));
 }

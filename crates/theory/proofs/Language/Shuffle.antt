@@ -63,7 +63,7 @@ shuffle-step {a} {x} {y} {xs} {ys} dx dy = record {
   words = λ w.
       Iff·trans (some-append (λ m. In m w) (map (λ m. joined shuffle m y) xs) (map (λ m. joined shuffle x m) ys))
       (Iff·trans
-      (⊎-iff (left-step shuffle Shuffled (joined-in shuffle shuffle-unital) dx y w)
-      (right-step shuffle Shuffled (joined-in shuffle shuffle-unital) x dy w))
+      (⊎-iff (left-step shuffle Shuffled (joined-in shuffle (λ h. shuffle-unital)) dx y w)
+      (right-step shuffle Shuffled (joined-in shuffle (λ h. shuffle-unital)) x dy w))
       (Iff·symm (shuffle-cons (In x) (In y) a w)));
 }

@@ -32,5 +32,5 @@ star-cons a x w = (
 pub star-step : {a : ℕ} {x : Expression} {xs : List Expression} → Derives a xs x → Derives a (map (λ m. joined concatenation m (star x)) xs) (star x)
 star-step {a} {x} d = record {
   words = λ w.
-      Iff·trans (left-step concatenation Appended (joined-in concatenation concatenation-unital) d (star x) w) (Iff·symm (star-cons a x w));
+      Iff·trans (left-step concatenation Appended (joined-in concatenation (λ h. concatenation-unital)) d (star x) w) (Iff·symm (star-cons a x w));
 }
