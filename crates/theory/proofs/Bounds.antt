@@ -10,6 +10,7 @@ use mathlib.Core.Path.{_≡_, refl, ap, _∙_}
 use mathlib.Core.Logic.{⊎-elim}
 use mathlib.Core.List.{List, [], _∷_, map, flatMap, List·Memᴰ, List·Memᴰ·head, List·Memᴰ·tail, List·Memᴰ·cases-cons, List·Memᴰ·not-nil, Memᴰ·of-map}
 use lib.ListN.{length, length-append, length-map}
+use Rattle.theory.specs.Limit.{last-letter}
 use Rattle.theory.specs.Expression.{Expression, same, ε, letters, entries, parts}
 use Rattle.theory.specs.Distinct.{place, NoRepeats, Within}
 use Rattle.theory.specs.Derivative.{derivative}
@@ -53,7 +54,7 @@ ascending-no-repeats first (suc n) = (λ h. let l = ascending-above (suc first) 
 
 pub alphabet-no-repeats : NoRepeats alphabet
 unfolding alphabet
-alphabet-no-repeats = ascending-no-repeats 1 255
+alphabet-no-repeats = ascending-no-repeats 1 last-letter
 
 module _ (e : Expression) where
   derivative-bound : (a : ℕ) (x : Expression) → List·Memᴰ x (e ∷ support e) → length (derivative a x) ≤ 2 ^ length (letters e)

@@ -1,5 +1,4 @@
 -- The first fault of a scan, as a loop finds it: over an entry without fault, at a fault, at the end; and what a scan without fault says.
--- Assumes nothing.
 use Prim.Native.Nat.{ℕ, zero, suc, _+_, _-_, _≤_, _<_}
 use native.Mathlib.Nat.{eq-or-lt-of-le}
 use native.Mathlib.Numerals.{add-one}

@@ -1,3 +1,4 @@
+pub mod Column
 pub mod Below
 pub mod Reached
 pub mod Distinct
@@ -13,10 +14,10 @@ pub mod Nearing
 pub mod Trees
 pub mod Grammar
 pub mod Scan
+pub mod Meaning
 pub mod Rows
 pub mod Sound
-pub mod KindOf
-pub mod ByKind
+pub mod Rooted
 pub mod Sum
 pub mod Times
 pub mod FirstFault

@@ -11,8 +11,8 @@ use Rattle.theory.specs.Distinct.{NoRepeats, Within}
 use Rattle.theory.proofs.Distinct.{no-longer}
 
 -- What follows in the first list from the first half, and in the second from the second, follows in both together.
-pub either-half : {A B : Type 0} {a : A} {z : B} (us : List B) {vs : List B} (xs ys : List A) → (List·Memᴰ z us → List·Memᴰ a xs) → (List·Memᴰ z vs → List·Memᴰ a ys)
-    → List·Memᴰ z (us ++ vs) → List·Memᴰ a (xs ++ ys)
+pub either-half : {A B : Type 0} {a : A} {z : B} (us : List B) {vs : List B} (xs ys : List A) → (List·Memᴰ z us → List·Memᴰ a xs)
+    → (List·Memᴰ z vs → List·Memᴰ a ys) → List·Memᴰ z (us ++ vs) → List·Memᴰ a (xs ++ ys)
 either-half us xs ys p q m = ⊎-elim (λ h. Memᴰ·append-left ys (p h)) (λ h. Memᴰ·append-right xs (q h)) (List·Memᴰ·append-cases us m)
 
 pub within-append : {A : Type 0} (xs us : List A) {ys vs : List A} → Within xs us → Within ys vs → Within (xs ++ ys) (us ++ vs)
@@ -66,12 +66,12 @@ module _ {A B : Type 0} (f : A → List B) (k : ℕ) where
     kept : List A
     once : NoRepeats kept
     among : Within kept xs
-    some : (x : A) → List·Memᴰ x kept → (z : B) × List·Memᴰ z (f x)
+    having-one : (x : A) → List·Memᴰ x kept → (z : B) × List·Memᴰ z (f x)
     bound : length (flatMap f xs) ≤ length kept * k
 
   having : (xs : List A) → NoRepeats xs → ((x : A) → length (f x) ≤ k) → Having xs
   unfolding flatMap
-  having [] r b = record { kept = []; once = tt; among = λ z m. m; some = λ x m. absurd (List·Memᴰ·not-nil m); bound = zero-le }
+  having [] r b = record { kept = []; once = tt; among = λ z m. m; having-one = λ x m. absurd (List·Memᴰ·not-nil m); bound = zero-le }
   having (x ∷ xs) r b = go (f x) refl (having xs (r .1) b)
     where
       go : (l : List B) → f x ≡ l → Having xs → Having (x ∷ xs)
@@ -79,15 +79,15 @@ module _ {A B : Type 0} (f : A → List B) (k : ℕ) where
         kept = h .kept;
         once = h .once;
         among = λ z m. List·Memᴰ·tail (h .among z m);
-        some = h .some;
+        having-one = h .having-one;
         bound = rw e (h .bound);
       }
       go (z ∷ l) e h = record {
         kept = x ∷ h .kept;
         once = (λ m. r .0 (h .among x m), h .once);
         among = λ w m. ⊎-elim (λ p. List·Memᴰ·head p) (λ t. List·Memᴰ·tail (h .among w t)) (List·Memᴰ·cases-cons m);
-        some = λ w m. ⊎-elim
-            (λ p. (z, subst (λ t. List·Memᴰ z t) (sym (ap f p ∙ e)) (List·Memᴰ·head refl))) (h .some w) (List·Memᴰ·cases-cons m);
+        having-one = λ w m. ⊎-elim
+            (λ p. (z, subst (λ t. List·Memᴰ z t) (sym (ap f p ∙ e)) (List·Memᴰ·head refl))) (h .having-one w) (List·Memᴰ·cases-cons m);
         bound = let s = b x in let t = h .bound in rw (length-append, suc-mul) (omega arith);
       }
 
@@ -95,7 +95,7 @@ module _ {A B : Type 0} (f : A → List B) (k : ℕ) where
       → ((x : A) (z : B) → List·Memᴰ z (f x) → List·Memᴰ x ys) → length (flatMap f xs) ≤ length ys * k
   length-flatMap-among same xs ys r b w =
       let h = having xs r b in
-      le-trans (h .bound) (mul-le-mul-right k (no-longer same (h .kept) ys (h .once) (λ x m. let s = h .some x m in w x (s .0) (s .1))))
+      le-trans (h .bound) (mul-le-mul-right k (no-longer same (h .kept) ys (h .once) (λ x m. let s = h .having-one x m in w x (s .0) (s .1))))
 
 -- f of each x and each y
 module _ {A B C : Type 0} (f : A → B → C) where

@@ -7,6 +7,7 @@ use mathlib.Core.Path.{_≡_, refl}
 use lib.ListN.{length-map}
 use borrow.Author.Tests.{eq-eqb, ne-eqb, le-ltb}
 use Rattle.theory.specs.Expression.{Expression, entries}
+use Rattle.theory.specs.Limit.{most-entries}
 use Rattle.theory.specs.Refusal.{success}
 use Rattle.theory.specs.Table.{row, columns, entry-fault, naming-fault, first-fault, table-refusal}
 use Rattle.theory.specs.Grammar.{Text, rows, Writable, read, Reads, whole}
@@ -35,7 +36,7 @@ unfolding naming-fault
 named-faultless e i l = rw (rows-size, rows-named-once e i l)
 
 -- 01: "A text that is read gives a table that the builder never refuses with 1 to 8."
-pub rows-refused-never : (e : Expression) → Writable e → entries e ≤ 512 → table-refusal (columns (rows 0 e)) ≡ success
+pub rows-refused-never : (e : Expression) → Writable e → entries e ≤ most-entries → table-refusal (columns (rows 0 e)) ≡ success
 unfolding table-refusal
 rows-refused-never e w l =
     let n = entries e in
@@ -43,7 +44,7 @@ rows-refused-never e w l =
     let equal = eq-eqb n n refl in
     let positive = entries-positive e in
     let not-empty = ne-eqb n 0 (λ z. omega arith) in
-    let not-long = le-ltb 512 n l in
+    let not-long = le-ltb most-entries n l in
     let faults = no-fault (λ i. entry-fault n i (row t i)) 0 n (λ j h. rw zero-add (rows-faultless e w j h)) in
     let naming = no-fault (naming-fault t) 0 (pred n) (λ j h. rw zero-add (named-faultless e j h)) in
     rw (length-map, length-map, length-map, rows-length, equal, not-empty, not-long, faults, naming)

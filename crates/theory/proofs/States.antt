@@ -52,7 +52,8 @@ met-begins e {t} {s} b = record {
 
 -- ---- The members of a round are the partial derivatives
 
-pub met-derived : (e : Expression) (s : List Expression) → ((m : Expression) → List·Memᴰ m s → Derived e m) → (m : Expression) → List·Memᴰ m (met e s) → Derived e m
+pub met-derived : (e : Expression) (s : List Expression) → ((m : Expression) → List·Memᴰ m s → Derived e m)
+    → (m : Expression) → List·Memᴰ m (met e s) → Derived e m
 met-derived e s d m h =
     ⊎-elim itself (λ t. let r = flatMap-of successors s t in Derived.onward (d (r .0) (r .1)) (r .2)) (List·Memᴰ·cases-cons (met-of e s m h))
 
@@ -92,7 +93,8 @@ growing-first e = record
 growing-met : (e : Expression) (s : List Expression) → Growing e s → Growing e (met e s)
 growing-met e s g = record { begins = met-begins e (g .begins); no-repeats = met-no-repeats e s; derived = met-derived e s (g .derived) }
 
-rounds-keep : (P : List Expression → Type 0) (e : Expression) → ((s : List Expression) → P s → P (met e s)) → (k : ℕ) (s : List Expression) → P s → P (rounds k e s)
+rounds-keep : (P : List Expression → Type 0) (e : Expression) → ((s : List Expression) → P s → P (met e s)) → (k : ℕ) (s : List Expression)
+    → P s → P (rounds k e s)
 unfolding rounds
 rounds-keep P e h zero s p = p
 rounds-keep P e h (suc k) s p = go (eqb (length (met e s)) (length s)) (rounds-keep P e h k (met e s) (h s p))
@@ -158,7 +160,9 @@ unfolding states
 states-only e s c d = begins-same begins (le-antisymm shorter (begins-longer begins))
   where
     begins : Begins (states e) s
-    begins = rounds-keep (λ t. Begins t s) e (λ t b. subst (Begins (met e t)) c (met-begins e b)) (2 ^ length (letters e)) (e ∷ []) (subst (Begins (e ∷ [])) c (met-first e s))
+    begins =
+        rounds-keep (λ t. Begins t s) e (λ t b. subst (Begins (met e t)) c (met-begins e b)) (2 ^ length (letters e)) (e ∷ [])
+        (subst (Begins (e ∷ [])) c (met-first e s))
 
     shorter : length s ≤ length (states e)
     shorter = no-longer same s (states e) (subst NoRepeats c (met-no-repeats e s)) (λ m h. derived-states (d m h))

@@ -1,4 +1,4 @@
--- Sums over the numbers below n and over the members of a list; a list that names each number below n so and so often. Assumes nothing.
+-- Sums over the numbers below n and over the members of a list; a list that names each number below n so and so often.
 use Prim.Native.Nat.{ℕ, zero, suc, pred, _+_, _*_, _<_}
 use native.Mathlib.Nat.{le-refl, zero-add, add-zero, zero-mul, one-mul, suc-mul, eq-or-lt-of-le, le-of-suc-le-suc, not-suc-le-zero}
 use native.Mathlib.Omega.{arith}

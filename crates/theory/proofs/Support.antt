@@ -4,7 +4,7 @@ pub mod Inherited
 use Prim.Native.Nat.{ℕ, suc, _+_, _*_, _^_, _≤_}
 use native.Mathlib.Nat.{le-trans, le-refl, mul-le-mul, suc-mul, mul-suc}
 use native.Mathlib.Omega.{arith}
-use mathlib.Core.Path.{_≡_, refl, sym, ap, _∙_, subst}
+use mathlib.Core.Path.{_≡_, refl, sym, ap, subst}
 use mathlib.Core.Logic.{⊎-elim}
 use mathlib.Core.Bool.{Bool, true, false, cond}
 use mathlib.Core.List.{List, [], _∷_, _++_, map, List·Memᴰ, List·Memᴰ·head, List·Memᴰ·tail, List·Memᴰ·cases-cons, List·Memᴰ·append-cases, List·Memᴰ·eq-of-singleton, List·Memᴰ·not-nil, Memᴰ·cast, Memᴰ·map, Memᴰ·of-map, Memᴰ·append-left, Memᴰ·append-right}
@@ -81,7 +81,8 @@ module _ (x y : Expression) {p q : List Expression} where
   unfolding shuffled
   left-shuffled {m} h k =
       ⊎-elim
-      (λ e. Memᴰ·append-right (pairs (joined shuffle) p q) (Memᴰ·append-left _ (Memᴰ·cast (ap (joined shuffle m) e) (Memᴰ·map (λ m. joined shuffle m y) h))))
+      (λ e. Memᴰ·append-right (pairs (joined shuffle) p q)
+      (Memᴰ·append-left _ (Memᴰ·cast (ap (joined shuffle m) e) (Memᴰ·map (λ m. joined shuffle m y) h))))
       (λ t. Memᴰ·append-left _ (to-pairs (joined shuffle) h t)) (List·Memᴰ·cases-cons k)
 
   -- x or a member of π x, with a member of π y
@@ -89,13 +90,16 @@ module _ (x y : Expression) {p q : List Expression} where
   unfolding shuffled
   right-shuffled {n = n} h k =
       ⊎-elim
-      (λ e. Memᴰ·append-right (pairs (joined shuffle) p q) (Memᴰ·append-right (map (λ m. joined shuffle m y) p) (Memᴰ·cast (ap (λ m. joined shuffle m n) e) (Memᴰ·map (λ n. joined shuffle x n) k))))
+      (λ e. Memᴰ·append-right (pairs (joined shuffle) p q)
+      (Memᴰ·append-right (map (λ m. joined shuffle m y) p) (Memᴰ·cast (ap (λ m. joined shuffle m n) e) (Memᴰ·map (λ n. joined shuffle x n) k))))
       (λ t. Memᴰ·append-left _ (to-pairs (joined shuffle) t k)) (List·Memᴰ·cases-cons h)
 
 pub shuffled-of : (x y : Expression) (p q : List Expression) {z : Expression} → List·Memᴰ z (shuffled x p y q)
     → (m : Expression) × (n : Expression) × List·Memᴰ m (x ∷ p) × List·Memᴰ n (y ∷ q) × (joined shuffle m n ≡ z)
 unfolding shuffled
-shuffled-of x y p q {z} h = ⊎-elim both (λ t. ⊎-elim left right (List·Memᴰ·append-cases (map (λ m. joined shuffle m y) p) t)) (List·Memᴰ·append-cases (pairs (joined shuffle) p q) h)
+shuffled-of x y p q {z} h =
+    ⊎-elim both (λ t. ⊎-elim left right (List·Memᴰ·append-cases (map (λ m. joined shuffle m y) p) t))
+    (List·Memᴰ·append-cases (pairs (joined shuffle) p q) h)
   where
     Found : Type 0
     Found = (m : Expression) × (n : Expression) × List·Memᴰ m (x ∷ p) × List·Memᴰ n (y ∷ q) × (joined shuffle m n ≡ z)
@@ -114,7 +118,8 @@ module _ {x y : Expression} {p q : List Expression} (left : Stays x p) (right : 
   unfolding gathered
   union-stays = record {
     first = λ a z m. within-append (derivative a x) p (left .first a) (right .first a) z (derivative-of a (binary union x y) z m);
-    onward = λ m h a. ⊎-elim (λ t z n. Memᴰ·append-left q (left .onward m t a z n)) (λ t z n. Memᴰ·append-right p (right .onward m t a z n)) (List·Memᴰ·append-cases p h);
+    onward = λ m h a. ⊎-elim
+        (λ t z n. Memᴰ·append-left q (left .onward m t a z n)) (λ t z n. Memᴰ·append-right p (right .onward m t a z n)) (List·Memᴰ·append-cases p h);
   }
 
   concatenation-stays : Stays (binary concatenation x y) (map (followed-by y) p ++ q)

@@ -1,10 +1,11 @@
--- Refusals 1 to 3 of a table, and what is left where they are not given: 01's order, one step a law. Assumes nothing.
+-- Refusals 1 to 3 of a table, and what is left where they are not given: 01's order, one step a law.
 use Prim.Native.Nat.{_≤_, _<_, pred}
 use mathlib.Core.Path.{_≡_, refl}
 use mathlib.Core.Bool.{Bool, true, false, _&&_}
 use lib.ListN.{length}
 use lib.Dec.{eqb}
 use borrow.Author.Tests.{eq-eqb, ne-eqb, eqb-true, lt-ltb, le-ltb}
+use Rattle.theory.specs.Limit.{most-entries}
 use Rattle.theory.specs.Refusal.{Refusal, refusal, or-else, columns-differ, table-empty, table-long}
 use Rattle.theory.specs.Table.{Table, row, size, entry-fault, naming-fault, first-fault, table-refusal, SameLengths}
 
@@ -32,10 +33,10 @@ pub refused-empty : (t : Table) → SameLengths t → size t ≡ 0 → table-ref
 unfolding table-refusal
 refused-empty t e z = rw (lengths-agree t e, eq-eqb (size t) 0 z)
 
-pub refused-long : (t : Table) → SameLengths t → (size t ≡ 0 → ⊥) → 512 < size t → table-refusal t ≡ refusal table-long 0
+pub refused-long : (t : Table) → SameLengths t → (size t ≡ 0 → ⊥) → most-entries < size t → table-refusal t ≡ refusal table-long 0
 unfolding table-refusal
-refused-long t e n l = rw (lengths-agree t e, ne-eqb (size t) 0 n, lt-ltb 512 (size t) l)
+refused-long t e n l = rw (lengths-agree t e, ne-eqb (size t) 0 n, lt-ltb most-entries (size t) l)
 
-pub refused-later : (t : Table) → SameLengths t → (size t ≡ 0 → ⊥) → size t ≤ 512 → table-refusal t ≡ later-refusal t
+pub refused-later : (t : Table) → SameLengths t → (size t ≡ 0 → ⊥) → size t ≤ most-entries → table-refusal t ≡ later-refusal t
 unfolding table-refusal
-refused-later t e n l = rw (lengths-agree t e, ne-eqb (size t) 0 n, le-ltb 512 (size t) l)
+refused-later t e n l = rw (lengths-agree t e, ne-eqb (size t) 0 n, le-ltb most-entries (size t) l)

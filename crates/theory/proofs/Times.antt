@@ -1,4 +1,4 @@
--- How often an entry is named: by a list of children, by a row, by the first rows of a table. Assumes nothing.
+-- How often an entry is named: by a list of children, by a row, by the first rows of a table.
 use Prim.Native.Nat.{ℕ, zero, suc, _+_, _*_, _≤_, zero-le, suc-le-suc}
 use native.Mathlib.Nat.{zero-add, le-step, le-trans}
 use native.Mathlib.Numerals.{add-one}

@@ -1,5 +1,5 @@
--- The trees of a table's rows: how many, which, that they depend on the rows so far alone, and what all of them have. Assumes nothing.
-use Prim.Native.Nat.{ℕ, zero, suc, _+_, _<_}
+-- The trees of a table's rows: how many, which, that they depend on the rows so far alone, and what all of them have.
+use Prim.Native.Nat.{ℕ, zero, suc, _<_}
 use native.Mathlib.Nat.{le-refl, le-of-suc-le-suc, not-suc-le-zero, eq-or-lt-of-le, le-step, le-trans}
 use native.Mathlib.Decide.{le-ind}
 use native.Mathlib.Omega.{arith}
@@ -16,7 +16,7 @@ unfolding trees
 trees-length t zero = refl
 trees-length t (suc n) = length-append (trees t n) _ ∙ (let e = trees-length t n in omega arith)
 
--- The tree of a row does not change when rows come behind it.
+-- The tree of a row does not change when rows come after it.
 pub trees-below : (t : Table) (n i : ℕ) → i < n → getD (trees t n) i ∅ ≡ tree-at t i
 unfolding trees tree-at
 trees-below t n i l =

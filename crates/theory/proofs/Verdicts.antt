@@ -17,6 +17,7 @@ use Rattle.theory.specs.Language.{Word}
 use Rattle.theory.specs.Column.{zeros, filled}
 use Rattle.theory.specs.Automaton.{Arc, Leads}
 use Rattle.theory.specs.Record.{Handed, handed, States, some-below, all-below, count-below, start, leads, moved, after, reached, dead-at, accepts, Verdict, accepted, unfinished, wrong, verdict, live, states-fit, arcs-fit, accepting-fits, ends-fit, well-formed}
+use Rattle.theory.proofs.Column.{getD-more}
 use Rattle.theory.proofs.Below.{some-at, some-of, all-at, some-cong, all-cong}
 use Rattle.theory.proofs.Reached.{Ends, start-below, after-below, verdict-wrong, verdict-whole}
 use Rattle.theory.proofs.Accepts.Columns.{used, reached-iff, Accepted, accepts-iff}
@@ -245,16 +246,6 @@ module _ {h k : Handed} (a : Agree h k) where
           ∙ ap (λ (n : ℕ). all-below n (λ i. ltb (getD (k .from) i 0) (k .states) && ltb (getD (k .to) i 0) (k .states) && not (eqb (getD (k .letter) i 0) 0))) (a .arcs)
 
 -- ---- Columns filled up with zero
-
-getD-zeros : (n i : ℕ) → getD (zeros n) i 0 ≡ 0
-getD-zeros zero i = refl
-getD-zeros (suc n) zero = refl
-getD-zeros (suc n) (suc i) = getD-zeros n i
-
-getD-more : (xs : List ℕ) (n i : ℕ) → getD (xs ++ zeros n) i 0 ≡ getD xs i 0
-getD-more [] n i = getD-zeros n i
-getD-more (x ∷ xs) n zero = refl
-getD-more (x ∷ xs) n (suc i) = getD-more xs n i
 
 -- Zero is what is read beyond a column's end, so the columns that are filled up need not even reach the counts.
 module _ (n : ℕ) (acc : List ℕ) (m : ℕ) (f l t : List ℕ) (a b c d : ℕ) where

@@ -1,5 +1,5 @@
 -- What a table without refusal gives its callers: its columns, each entry and the naming; how many entries and letters its tree has; the
--- range of the tree's letters. Assumes nothing.
+-- range of the tree's letters. Leans on `Sum` and `Trees`.
 use Prim.Native.Nat.{ℕ, zero, suc, pred, _+_, _≤_, _<_}
 use native.Mathlib.Nat.{le-refl, le-trans}
 use native.Mathlib.Decide.{ℕ-discrete, decLt}
@@ -10,11 +10,14 @@ use mathlib.Core.Bool.{Bool, true, false, cond, not, _&&_, false≢true}
 use mathlib.Core.List.{List, [], _∷_, List·Memᴰ, List·Memᴰ·not-nil, List·Memᴰ·cases-cons, List·Memᴰ·append-cases, List·Memᴰ·eq-of-singleton}
 use lib.ListN.{length, getD, length-append}
 use lib.Dec.{eqb, leb, ltb}
-use borrow.Author.Tests.{ne-eqb, eqb-true, eqb-false, leb-true, ltb-true, ltb-false}
+use borrow.Author.Tests.{eq-eqb, ne-eqb, eqb-true, eqb-false, leb-true, ltb-true, ltb-false}
+use Rattle.theory.specs.Kind
+use Rattle.theory.specs.Limit.{most-entries, last-letter}
 use Rattle.theory.specs.Expression.{Expression, ∅, entries, letters}
 use Rattle.theory.specs.Refusal.{Refusal, refusal, or-else, kind-unknown, field-outside, child-not-smaller, empty-language-inside}
 use Rattle.theory.specs.Record.{count-below}
 use Rattle.theory.specs.Table.{Table, Row, row, size, tree, tree-at, trees, row-tree, node, Meaning, ∅-kind, ε-kind, letter-kind, sign-kind, star-kind, unknown-kind, meaning, fields-fit, children, row-children, all-smaller, entry-fault, named, naming-fault, table-refusal, SameLengths, Faultless, WellFormed}
+use Rattle.theory.proofs.Meaning.{Numbered, numbered, meaning-is}
 use Rattle.theory.proofs.FirstFault.{none-at}
 use Rattle.theory.proofs.Times.{once-of}
 use Rattle.theory.proofs.TableRefusal.{refused-differ, refused-empty, refused-long, refused-later}
@@ -35,11 +38,11 @@ smaller-of i (d ∷ ds) e c m = go (ltb d i) refl e (λ h k. smaller-of i ds h c
 faultless-of : (n i : ℕ) (w : Row) → entry-fault n i w ≡ 0 → Faultless n i w
 unfolding entry-fault
 faultless-of n i w e =
-    go (ltb 6 (w .kind)) (fields-fit (meaning (w .kind)) (w .left) (w .right)) (all-smaller i (row-children w)) (eqb (w .kind) 0) (ltb 1 n) refl refl refl
-    refl refl e
+    go (ltb Kind.last (w .kind)) (fields-fit (meaning (w .kind)) (w .left) (w .right)) (all-smaller i (row-children w))
+    (eqb (w .kind) Kind.empty-language) (ltb 1 n) refl refl refl refl refl e
   where
-    go : (a b c d e : Bool) → ltb 6 (w .kind) ≡ a → fields-fit (meaning (w .kind)) (w .left) (w .right) ≡ b → all-smaller i (row-children w) ≡ c
-        → eqb (w .kind) 0 ≡ d → ltb 1 n ≡ e
+    go : (a b c d e : Bool) → ltb Kind.last (w .kind) ≡ a → fields-fit (meaning (w .kind)) (w .left) (w .right) ≡ b → all-smaller i (row-children w) ≡ c
+        → eqb (w .kind) Kind.empty-language ≡ d → ltb 1 n ≡ e
         → cond a kind-unknown (cond (not b) field-outside (cond (not c) child-not-smaller (cond (d && e) empty-language-inside 0))) ≡ 0
         → Faultless n i w
     go true b c d e p q r s u z = absurd (omega arith)
@@ -47,9 +50,14 @@ faultless-of n i w e =
     go false true false d e p q r s u z = absurd (omega arith)
     go false true true true true p q r s u z = absurd (omega arith)
     go false true true true false p q r s u z =
-        record { known = ltb-false 6 (w .kind) p; fits = q; smaller = smaller-of i (row-children w) r; alone = λ _. ltb-false 1 n u }
+        record { known = ltb-false Kind.last (w .kind) p; fits = q; smaller = smaller-of i (row-children w) r; alone = λ _. ltb-false 1 n u }
     go false true true false e p q r s u z =
-        record { known = ltb-false 6 (w .kind) p; fits = q; smaller = smaller-of i (row-children w) r; alone = λ k. absurd (eqb-false (w .kind) 0 s k) }
+        record {
+          known = ltb-false Kind.last (w .kind) p;
+          fits = q;
+          smaller = smaller-of i (row-children w) r;
+          alone = λ k. absurd (eqb-false (w .kind) Kind.empty-language s k);
+        }
 
 both-clear : (r s : Refusal) → (or-else r s) .number ≡ 0 → (r .number ≡ 0) × (s .number ≡ 0)
 both-clear r s e = go (eqb (r .number) 0) refl e
@@ -64,22 +72,23 @@ well-formed t e = first (ℕ-discrete (length (t .left)) (size t)) (ℕ-discrete
     not-with : {k p : ℕ} → table-refusal t ≡ refusal k p → k ≡ 0
     not-with q = sym (ap (λ (r : Refusal). r .number) q) ∙ e
 
-    third : SameLengths t → (size t ≡ 0 → ⊥) → Dec (512 < size t) → WellFormed t
+    third : SameLengths t → (size t ≡ 0 → ⊥) → Dec (most-entries < size t) → WellFormed t
     third v n (yes l) = absurd (let z = not-with (refused-long t v n l) in omega arith)
     third v n (no m) =
-        let l : size t ≤ 512 = omega arith in
+        let l : size t ≤ most-entries = omega arith in
         let z = both-clear _ _ (sym (ap (λ (r : Refusal). r .number) (refused-later t v n l)) ∙ e) in
         record {
           lengths = v;
           nonempty = omega arith;
           short = l;
-          faultless = λ i h. faultless-of (size t) i (row t i) (none-at (λ j. entry-fault (size t) j (row t j)) 0 (size t) (z .0) i (omega arith) (omega arith));
+          faultless = λ i h.
+              faultless-of (size t) i (row t i) (none-at (λ j. entry-fault (size t) j (row t j)) 0 (size t) (z .0) i (omega arith) (omega arith));
           once = λ i h. once-of t i (none-at (naming-fault t) 0 (pred (size t)) (z .1) i (omega arith) (omega arith));
         }
 
     second : SameLengths t → Dec (size t ≡ 0) → WellFormed t
     second v (yes z) = absurd (let q = not-with (refused-empty t v z) in omega arith)
-    second v (no n) = third v n (decLt 512 (size t))
+    second v (no n) = third v n (decLt most-entries (size t))
 
     first : Dec (length (t .left) ≡ size t) → Dec (length (t .right) ≡ size t) → WellFormed t
     first (yes p) (yes q) = second (p, q) (ℕ-discrete (size t) 0)
@@ -107,17 +116,21 @@ letters-add (sign-kind s) l r ts = omega (arith, length-append (letters (getD ts
 letters-add star-kind l r ts = omega arith
 letters-add unknown-kind l r ts = refl
 
-of-kind : (k : ℕ) → one-letter (meaning k) ≡ cond (eqb k 2) 1 0
-unfolding one-letter meaning
-of-kind zero = refl
-of-kind (suc zero) = refl
-of-kind (suc (suc zero)) = refl
-of-kind (suc (suc (suc zero))) = refl
-of-kind (suc (suc (suc (suc zero)))) = refl
-of-kind (suc (suc (suc (suc (suc zero))))) = refl
-of-kind (suc (suc (suc (suc (suc (suc zero)))))) = refl
-of-kind (suc (suc (suc (suc (suc (suc (suc k))))))) =
-    sym (ap (λ (b : Bool). cond b 1 0) (ne-eqb (suc (suc (suc (suc (suc (suc (suc k))))))) 2 (λ e. omega arith)))
+of-kind : (k : ℕ) → one-letter (meaning k) ≡ cond (eqb k Kind.letter) 1 0
+unfolding one-letter
+of-kind k = go (ℕ-discrete k Kind.letter)
+  where
+    other : (m : Meaning) → Numbered m k → (k ≡ Kind.letter → ⊥) → one-letter m ≡ 0
+    other ∅-kind h d = refl
+    other ε-kind h d = refl
+    other letter-kind h d = absurd (d h)
+    other (sign-kind s) h d = refl
+    other star-kind h d = refl
+    other unknown-kind h d = refl
+
+    go : Dec (k ≡ Kind.letter) → one-letter (meaning k) ≡ cond (eqb k Kind.letter) 1 0
+    go (yes e) = rw (meaning-is letter-kind k e, eq-eqb k Kind.letter e)
+    go (no d) = rw (other (meaning k) (numbered k) d, ne-eqb k Kind.letter d)
 
 -- What the rows name, row by row.
 named-sum : (t : Table) (g : ℕ → ℕ) (n : ℕ) → sum-over g (named t n) ≡ sum-below n (λ i. sum-over g (row-children (row t i)))
@@ -129,16 +142,16 @@ named-sum t g (suc n) = over-append g (named t n) (row-children (row t n)) ∙ a
 
 -- 01: letters are "1 to 255".
 abbrev pub Lettered : Expression → Type 0
-Lettered e = (a : ℕ) → List·Memᴰ a (letters e) → (1 ≤ a) × (a ≤ 255)
+Lettered e = (a : ℕ) → List·Memᴰ a (letters e) → (1 ≤ a) × (a ≤ last-letter)
 
 node-lettered : (m : Meaning) (l r : ℕ) (ts : List Expression) → fields-fit m l r ≡ true → ((j : ℕ) → Lettered (getD ts j ∅)) → Lettered (node m l r ts)
 unfolding letters node fields-fit
 node-lettered ∅-kind l r ts e h a m = absurd (List·Memᴰ·not-nil m)
 node-lettered ε-kind l r ts e h a m = absurd (List·Memᴰ·not-nil m)
-node-lettered letter-kind l r ts e h a m = go (leb 1 l) (leb l 255) refl refl e
+node-lettered letter-kind l r ts e h a m = go (leb 1 l) (leb l last-letter) refl refl e
   where
-    go : (b d : Bool) → leb 1 l ≡ b → leb l 255 ≡ d → (b && d && eqb r 0) ≡ true → (1 ≤ a) × (a ≤ 255)
-    go true true p q z = subst (λ (k : ℕ). (1 ≤ k) × (k ≤ 255)) (sym (List·Memᴰ·eq-of-singleton m)) (leb-true 1 l p, leb-true l 255 q)
+    go : (b d : Bool) → leb 1 l ≡ b → leb l last-letter ≡ d → (b && d && eqb r 0) ≡ true → (1 ≤ a) × (a ≤ last-letter)
+    go true true p q z = subst (λ (k : ℕ). (1 ≤ k) × (k ≤ last-letter)) (sym (List·Memᴰ·eq-of-singleton m)) (leb-true 1 l p, leb-true l last-letter q)
     go true false p q z = absurd (false≢true z)
     go false d p q z = absurd (false≢true z)
 node-lettered (sign-kind s) l r ts e h a m = ⊎-elim (h l a) (h r a) (List·Memᴰ·append-cases (letters (getD ts l ∅)) m)
@@ -203,11 +216,11 @@ module _ {t : Table} (good : WellFormed t) where
       adds star-kind l r ts = omega arith
       adds unknown-kind l r ts = refl
 
-  -- The letter's m, "letters counted with repeats": the entries of kind 2.
-  pub tree-letters : length (letters (tree t)) ≡ count-below (size t) (λ i. eqb ((row t i) .kind) 2)
+  -- The letter's m, "letters counted with repeats": the entries of kind `letter`.
+  pub tree-letters : length (letters (tree t)) ≡ count-below (size t) (λ i. eqb ((row t i) .kind) Kind.letter)
   tree-letters =
       tree-count (λ e. length (letters e)) one-letter letters-add ∙ sum-cong (size t) (λ i l. of-kind ((row t i) .kind))
-      ∙ sum-count (size t) (λ i. eqb ((row t i) .kind) 2)
+      ∙ sum-count (size t) (λ i. eqb ((row t i) .kind) Kind.letter)
 
   pub tree-lettered : Lettered (tree t)
   unfolding tree row-tree letters

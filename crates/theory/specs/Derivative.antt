@@ -1,6 +1,5 @@
 -- 01, "Derivatives, and the order of states and arcs": the answer for the empty word, the joining rules and the list by a letter.
 use Prim.Native.Nat.{ℕ}
-use mathlib.Core.Path.{_≡_}
 use mathlib.Core.Bool.{Bool, true, false, _&&_, _||_, cond}
 use mathlib.Core.List.{List, [], _∷_, _++_, map}
 use lib.Dec.{eqb}

@@ -42,7 +42,8 @@ part-inner x z h = Memᴰ·append-left _ h
 parts-of : (s : Sign) (x y : Expression) {z : Expression} → List·Memᴰ z (parts (binary s x y))
     → (List·Memᴰ z (parts x) ⊎ List·Memᴰ z (parts y)) ⊎ (z ≡ binary s x y)
 unfolding parts
-parts-of s x y h = ⊎-elim (λ t. inl (List·Memᴰ·append-cases (parts x) t)) (λ t. inr (List·Memᴰ·eq-of-singleton t)) (List·Memᴰ·append-cases (parts x ++ parts y) h)
+parts-of s x y h =
+    ⊎-elim (λ t. inl (List·Memᴰ·append-cases (parts x) t)) (λ t. inr (List·Memᴰ·eq-of-singleton t)) (List·Memᴰ·append-cases (parts x ++ parts y) h)
 
 -- The same of a sign's tree, wherever one is made.
 pub pair-left : (s : Sign) (x y : Expression) → Within (parts x) (parts (pair s x y))

@@ -1,4 +1,4 @@
--- The leaves' steps of the derivative: the empty language, the empty word, a letter. Assumes nothing.
+-- The leaves' steps of the derivative: the empty language, the empty word, a letter.
 use Prim.Native.Nat.{ℕ}
 use mathlib.Core.Logic.{Iff·trans, Iff·and, Iff·symm}
 use mathlib.Core.Bool.{cond}

@@ -1,4 +1,4 @@
--- Two languages put together word by word: the shape that concatenation and shuffle share. Assumes nothing.
+-- Two languages put together word by word: the shape that concatenation and shuffle share.
 use mathlib.Core.Path.{_≡_, refl, sym, subst}
 use mathlib.Core.Logic.{_↔_, Iff·trans, Iff·symm, Iff·and}
 use mathlib.Core.Bool.{Bool, true, _&&_, and-eq-true-iff}

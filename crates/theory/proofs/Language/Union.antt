@@ -1,4 +1,4 @@
--- Union: its answer for the empty word and its step of the derivative. Assumes nothing.
+-- Union: its answer for the empty word and its step of the derivative.
 use Prim.Native.Nat.{ℕ}
 use mathlib.Core.Path.{_≡_, refl}
 use mathlib.Core.Logic.{_↔_, _⊎_, inl, inr, ⊎-elim, Iff·trans}

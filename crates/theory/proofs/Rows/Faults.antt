@@ -7,41 +7,43 @@ use mathlib.Core.List.{List, [], _∷_, _++_}
 use lib.ListN.{length, length-append}
 use lib.Dec.{T}
 use borrow.Author.Tests.{lt-ltb, le-leb}
+use Rattle.theory.specs.Kind
+use Rattle.theory.specs.Limit.{last-letter}
 use Rattle.theory.specs.Expression.{Expression, Sign, union, concatenation, shuffle, ∅, ε, letter, binary, star, entries}
-use Rattle.theory.specs.Table.{Row, row, columns, entry-fault, kind-of-sign}
+use Rattle.theory.specs.Table.{Row, row, columns, entry, entry-fault, kind-of-sign}
 use Rattle.theory.specs.Grammar.{rows, Inner, Writable, is-letter}
 use Rattle.theory.proofs.Grammar.Bytes.{letter-bounds}
 use Rattle.theory.proofs.Rows.Trees.{rows-length, entries-positive}
 
 -- The rows, numbered from i on, have no fault in a table of n.
-abbrev Faultless : ℕ → ℕ → List Row → Type 0
-Faultless n i [] = Unit {0}
-Faultless n i (w ∷ ws) = (entry-fault n i w ≡ 0) × Faultless n (suc i) ws
+abbrev AllFaultless : ℕ → ℕ → List Row → Type 0
+AllFaultless n i [] = Unit {0}
+AllFaultless n i (w ∷ ws) = (entry-fault n i w ≡ 0) × AllFaultless n (suc i) ws
 
-faultless-append : (n i : ℕ) (us ws : List Row) → Faultless n i us → Faultless n (i + length us) ws → Faultless n i (us ++ ws)
+faultless-append : (n i : ℕ) (us ws : List Row) → AllFaultless n i us → AllFaultless n (i + length us) ws → AllFaultless n i (us ++ ws)
 faultless-append n i [] ws f g = rw add-zero at g
 faultless-append n i (u ∷ us) ws f g = (f .0, faultless-append n (suc i) us ws (f .1) (rw (suc-add, ← add-suc) g))
 
-faultless-at : (n j : ℕ) (ws : List Row) → Faultless n j ws → (i : ℕ) → i < length ws → entry-fault n (j + i) (row (columns ws) i) ≡ 0
+faultless-at : (n j : ℕ) (ws : List Row) → AllFaultless n j ws → (i : ℕ) → i < length ws → entry-fault n (j + i) (row (columns ws) i) ≡ 0
 faultless-at n j [] f i l = absurd (omega arith)
 faultless-at n j (w ∷ ws) f zero l = rw add-zero (f .0)
 faultless-at n j (w ∷ ws) f (suc i) l = rw (add-suc, ← suc-add) (faultless-at n (suc j) ws (f .1) i (omega arith))
 
-letter-row : (n i a : ℕ) → T (is-letter a) → entry-fault n i (record { kind = 2; left = a; right = 0 }) ≡ 0
+letter-row : (n i a : ℕ) → T (is-letter a) → entry-fault n i (entry Kind.letter a 0) ≡ 0
 unfolding entry-fault
-letter-row n i a h = let b = letter-bounds a h in rw (le-leb 1 a (omega arith), le-leb a 255 (omega arith))
+letter-row n i a h = let b = letter-bounds a h in rw (le-leb 1 a (omega arith), le-leb a last-letter (omega arith))
 
-sign-row : (n i : ℕ) (s : Sign) (l r : ℕ) → l < i → r < i → entry-fault n i (record { kind = kind-of-sign s; left = l; right = r }) ≡ 0
+sign-row : (n i : ℕ) (s : Sign) (l r : ℕ) → l < i → r < i → entry-fault n i (entry (kind-of-sign s) l r) ≡ 0
 unfolding entry-fault kind-of-sign
 sign-row n i union l r h k = rw (lt-ltb l i h, lt-ltb r i k)
 sign-row n i concatenation l r h k = rw (lt-ltb l i h, lt-ltb r i k)
 sign-row n i shuffle l r h k = rw (lt-ltb l i h, lt-ltb r i k)
 
-star-row : (n i l : ℕ) → l < i → entry-fault n i (record { kind = 6; left = l; right = 0 }) ≡ 0
+star-row : (n i l : ℕ) → l < i → entry-fault n i (entry Kind.star l 0) ≡ 0
 unfolding entry-fault
 star-row n i l h = rw (lt-ltb l i h)
 
-faultless-rows : (n base : ℕ) (e : Expression) → Inner e → Faultless n base (rows base e)
+faultless-rows : (n base : ℕ) (e : Expression) → Inner e → AllFaultless n base (rows base e)
 unfolding rows entry-fault
 faultless-rows n base ∅ i = absurd i
 faultless-rows n base ε i = (refl, tt)
@@ -59,7 +61,7 @@ faultless-rows n base (star x) i =
     faultless-append n base (rows base x) _ (faultless-rows n base x i) (rw rows-length own, tt)
 
 -- Neither has the one row of `0` alone.
-writable-faultless : (e : Expression) → Writable e → Faultless (entries e) 0 (rows 0 e)
+writable-faultless : (e : Expression) → Writable e → AllFaultless (entries e) 0 (rows 0 e)
 unfolding rows entries entry-fault
 writable-faultless ∅ w = (refl, tt)
 writable-faultless ε w = faultless-rows (entries ε) 0 ε w

@@ -12,8 +12,9 @@ use Rattle.theory.specs.Expression.{Expression, ∅, ε, letter, binary,
 use Rattle.theory.specs.Table.{Row, columns, row-children, named, times}
 use Rattle.theory.specs.Grammar.{rows}
 use Rattle.theory.proofs.Times.{times-append}
+use Rattle.theory.proofs.Meaning.{sign-meaning}
 use Rattle.theory.proofs.Rows.Along.{along}
-use Rattle.theory.proofs.Rows.Trees.{sign-meaning, rows-length}
+use Rattle.theory.proofs.Rows.Trees.{rows-length}
 
 -- ---- How often a number stands in a list
 

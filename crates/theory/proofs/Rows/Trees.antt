@@ -5,9 +5,10 @@ use mathlib.Core.Path.{_≡_, refl, _∙_}
 use mathlib.Core.List.{List, [], _∷_, _++_, foldl, append-assoc, foldl-append}
 use lib.ListN.{length, length-append, length-map, getD, List·getD-append}
 use lib.Seq.{getD-at, getD-append-add}
-use Rattle.theory.specs.Expression.{Expression, Sign, union, concatenation, shuffle, ∅, ε, letter, binary, star, entries, parts}
-use Rattle.theory.specs.Table.{Row, columns, kind-of-sign, meaning, sign-kind, row-tree, trees, tree, size}
+use Rattle.theory.specs.Expression.{Expression, pair, ∅, ε, letter, binary, star, entries, parts}
+use Rattle.theory.specs.Table.{Row, columns, row-tree, trees, tree, size}
 use Rattle.theory.specs.Grammar.{rows}
+use Rattle.theory.proofs.Meaning.{sign-meaning}
 use Rattle.theory.proofs.Rows.Along.{along}
 
 pub rows-length : (base : ℕ) (e : Expression) → length (rows base e) ≡ entries e
@@ -42,13 +43,7 @@ parts-last (letter a) = refl
 parts-last (binary s x y) = getD-at (parts x ++ parts y) (binary s x y) [] ∅ (entries x + entries y) (simp (length-append, parts-length))
 parts-last (star x) = getD-at (parts x) (star x) [] ∅ (entries x) (parts-length x)
 
-pub sign-meaning : (s : Sign) → meaning (kind-of-sign s) ≡ sign-kind s
-unfolding meaning kind-of-sign
-sign-meaning union = refl
-sign-meaning concatenation = refl
-sign-meaning shuffle = refl
-
--- A row's tree put behind the trees before it.
+-- A row's tree put after the trees before it.
 unfoldable grow : List Expression → Row → List Expression
 unfolding row-tree
 grow ts w = ts ++ row-tree w ts ∷ []
@@ -57,7 +52,7 @@ trees-along : (ws : List Row) → trees (columns ws) (length ws) ≡ foldl grow 
 unfolding trees grow
 trees-along ws = along grow (trees (columns ws)) ws (λ n. refl)
 
--- The tree of an expression whose parts stand behind ts, and it stays where more trees follow.
+-- The tree of an expression whose parts stand after ts, and it stays where more trees follow.
 own-tree : (ts : List Expression) (e : Expression) → getD (ts ++ parts e) (length ts + pred (entries e)) ∅ ≡ e
 own-tree ts e = rw getD-append-add (parts-last e)
 
@@ -69,7 +64,7 @@ own-tree-stays ts e us =
     rw List·getD-append (own-tree ts e)
 
 grow-rows : (e : Expression) (ts : List Expression) → foldl grow ts (rows (length ts) e) ≡ ts ++ parts e
-unfolding rows grow parts
+unfolding rows grow parts pair
 grow-rows ∅ ts = refl
 grow-rows ε ts = refl
 grow-rows (letter a) ts = refl

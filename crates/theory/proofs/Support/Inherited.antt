@@ -39,7 +39,8 @@ module _ (P : Expression → Expression → Type 0) (i : Inherited P) where
         let f = shuffled-of x y (support x) (support y) h in
         subst (P (binary shuffle x y)) (f .4) (i .both shuffle x y (f .0) (f .1) (l (f .0) (f .2)) (r (f .1) (f .3)) (Memᴰ·cast (f .4) h))
 
-  star-inherited : (x : Expression) → ((m : Expression) → List·Memᴰ m (x ∷ support x) → P x m) → (m : Expression) → List·Memᴰ m (support (star x)) → P (star x) m
+  star-inherited : (x : Expression) → ((m : Expression) → List·Memᴰ m (x ∷ support x) → P x m) → (m : Expression)
+      → List·Memᴰ m (support (star x)) → P (star x) m
   unfolding support
   star-inherited x l m h =
       let f = Memᴰ·of-map (followed-by (star x)) (support x) h in
