@@ -1,5 +1,5 @@
 -- A column that is cleared from the front, at any width: what it is on the way, how a turn goes on, and what it is at the end.
--- The invariant and the measure of the loop stand here once, for every width. Assumes nothing.
+-- The invariant and the measure of the loop stand here once, for every width.
 use Prim.Native.Nat.{ℕ, _+_, _-_, _≤_, _<_}
 use native.Mathlib.Omega.{arith}
 use mathlib.Core.Path.{_≡_, ap, _∙_}

@@ -1,1 +1,3 @@
 pub mod Clearing
+pub mod Signs
+pub mod ByteAt

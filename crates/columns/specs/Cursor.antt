@@ -7,6 +7,6 @@ use lib.Dec.{ltb}
 use Rattle.columns.specs.declared.Step.{Step}
 use Rattle.columns.specs.declared.Step.the-variants.{Byte, End}
 
--- the byte at `at` with the cursor behind it, or the end
+-- the byte at `at` with the cursor after it, or the end
 abbrev pub step-at : List ℕ → ℕ → Step
 step-at s at = cond (ltb at (length s)) (Byte (getD s at 0) (record { at = at + 1 })) End

@@ -1,12 +1,20 @@
-// Small stores on lent columns, shared by all that write them.
+// Small readings and stores on lent columns, shared by all that read and write them.
 
+use theory::kind;
 ghost use mathlib.Core.Path.{_≡_};
-ghost use Prim.Native.Nat.{_<_};
+ghost use Prim.Native.Nat.{_<_, min};
 ghost use lib.ListN.{length};
 ghost use Rattle.theory.specs.Column.{zeros};
-ghost use Rattle.theory.specs.Table.{table, row};
+ghost use Rattle.theory.specs.Table.{table, row, row-children};
 ghost use Rattle.columns.specs.Cursor.{step-at};
-ghost use Rattle.columns.specs.Row.{as-row};
+ghost use Rattle.columns.specs.Row.{as-row, cleared, as-children};
+
+// 01: "the smaller of 512 and the column length"; "or 65,535 .. if that is smaller".
+pub fn smaller(a: usize, b: usize) -> usize
+    ensures { λ r. ⌜ r ≡ min a b ⌝ }
+{
+    if a < b { a } else { b }
+}
 
 // 01: "sets all lent output and work columns to zero". One function for each width.
 pub fn clear8(column: &mut [u8])
@@ -33,11 +41,44 @@ pub fn clear64(column: &mut [u64])
     }
 }
 
+// The three columns of an expression table.
+pub fn clear_table(kind: &mut [u8], left: &mut [u16], right: &mut [u16])
+    ensures { λ _.
+        ⌜ table (now (kind .exit)) (now (left .exit)) (now (right .exit))
+        ≡ cleared (table (now (kind .entry)) (now (left .entry)) (now (right .entry))) ⌝ }
+{
+    clear8(kind);
+    clear16(left);
+    clear16(right);
+}
+
 // A row of an expression table, read whole.
 pub struct Row {
     pub kind: u8,
     pub left: u16,
     pub right: u16,
+}
+
+// The children that a row names.
+pub enum Children {
+    Nothing,
+    One { child: usize },
+    Two { left: usize, right: usize },
+}
+
+impl Row {
+    pub fn children(self) -> Children
+        ensures { λ r. ⌜ as-children r ≡ row-children (as-row self) ⌝ }
+    {
+        let kind = self.kind;
+        let left = self.left as usize;
+        let right = self.right as usize;
+        match kind {
+            kind::UNION | kind::CONCATENATION | kind::SHUFFLE => Children::Two { left, right },
+            kind::STAR => Children::One { child: left },
+            _ => Children::Nothing,
+        }
+    }
 }
 
 pub fn row_at(kind: &[u8], left: &[u16], right: &[u16], i: usize) -> Row
@@ -56,7 +97,7 @@ pub struct Cursor {
     pub at: usize,
 }
 
-// What stands at a cursor: a byte, with the cursor behind it, or the end.
+// What stands at a cursor: a byte, with the cursor after it, or the end.
 pub enum Step {
     Byte(u8, Cursor),
     End,

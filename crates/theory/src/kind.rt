@@ -13,3 +13,5 @@ pub const CONCATENATION: u8 = 4;
 pub const SHUFFLE: u8 = 5;
 
 pub const STAR: u8 = 6;
+// A kind beyond it is unknown.
+pub const LAST: u8 = STAR;

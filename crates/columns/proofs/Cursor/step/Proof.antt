@@ -1,4 +1,4 @@
--- `step` gives the byte at the cursor with the cursor behind it, or the end.
+-- `step` gives the byte at the cursor with the cursor after it, or the end.
 use borrow.Author.Needs.{needs}
 use borrow.Author.Tests.{lt-ltb, le-ltb}
 use Rattle.columns.proofs.Cursor.step.Statement.{statement}
