@@ -1,9 +1,13 @@
 // What can be wrong with an entry by itself: refusals 4 to 7.
 
+use columns::Children;
 use columns::Row;
+use theory::kind;
+use theory::limit;
+use theory::refusal;
 ghost use mathlib.Core.Path.{_≡_};
 ghost use lib.ListN.{length};
-ghost use Rattle.theory.specs.Table.{table, row, meaning, fields-fit, row-children, all-below, entry-fault, first-fault};
+ghost use Rattle.theory.specs.Table.{table, row, meaning, fields-fit, row-children, all-smaller, entry-fault, first-fault};
 ghost use Rattle.columns.specs.Row.{as-row};
 ghost use Rattle.table.specs.Checked.{Scanned};
 
@@ -13,22 +17,21 @@ fn fields_fit(w: Row) -> bool
 {
     let kind = w.kind;
     match kind {
-        0 | 1 => w.left == 0 && w.right == 0,
-        2 => 1 <= w.left && w.left <= 255 && w.right == 0,
-        6 => w.right == 0,
+        kind::EMPTY_LANGUAGE | kind::EMPTY_WORD => (w.left == 0) & (w.right == 0),
+        kind::LETTER => (1 <= w.left) & (w.left <= limit::LETTER) & (w.right == 0),
+        kind::STAR => w.right == 0,
         _ => true,
     }
 }
 
 // 01: "A child's number is smaller than its parent's."
 fn children_smaller(i: usize, w: Row) -> bool
-    ensures { λ r. ⌜ r ≡ all-below i (row-children (as-row w)) ⌝ }
+    ensures { λ r. ⌜ r ≡ all-smaller i (row-children (as-row w)) ⌝ }
 {
-    let kind = w.kind;
-    match kind {
-        3 | 4 | 5 => (w.left as usize) < i && (w.right as usize) < i,
-        6 => (w.left as usize) < i,
-        _ => true,
+    match w.children() {
+        Children::Nothing => true,
+        Children::One { child } => child < i,
+        Children::Two { left, right } => (left < i) & (right < i),
     }
 }
 
@@ -37,17 +40,17 @@ fn fault(entries: usize, i: usize, w: Row) -> u8
     ensures { λ r. ⌜ r ≡ entry-fault entries i (as-row w) ⌝ }
 {
     let kind = w.kind;
-    if 6 < kind {
-        return 4;
+    if kind::LAST < kind {
+        return refusal::KIND_UNKNOWN;
     }
     if !fields_fit(w) {
-        return 5;
+        return refusal::FIELD_OUTSIDE;
     }
     if !children_smaller(i, w) {
-        return 6;
+        return refusal::CHILD_NOT_SMALLER;
     }
-    if kind == 0 && 1 < entries {
-        return 7;
+    if kind == kind::EMPTY_LANGUAGE && 1 < entries {
+        return refusal::EMPTY_LANGUAGE_INSIDE;
     }
     0
 }

@@ -3,6 +3,8 @@
 mod entry;
 mod naming;
 
+use theory::limit;
+use theory::refusal;
 ghost use Rattle.theory.specs.Table.{table, table-refusal};
 ghost use Rattle.table.specs.Checked.{Scanned};
 
@@ -16,19 +18,19 @@ pub fn check(kind: &[u8], left: &[u16], right: &[u16]) -> Checked
 {
     if left.len() != kind.len() || right.len() != kind.len() {
         return Checked::Refused {
-            number: 1,
+            number: refusal::COLUMNS_DIFFER,
             place: 0,
         };
     }
     if kind.len() == 0 {
         return Checked::Refused {
-            number: 2,
+            number: refusal::TABLE_EMPTY,
             place: 0,
         };
     }
-    if 512 < kind.len() {
+    if limit::ENTRIES < kind.len() {
         return Checked::Refused {
-            number: 3,
+            number: refusal::TABLE_LONG,
             place: 0,
         };
     }

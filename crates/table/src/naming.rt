@@ -1,6 +1,8 @@
 // How often an entry is named as a child: refusal 8.
 
+use columns::Children;
 use columns::Row;
+use theory::refusal;
 ghost use mathlib.Core.Path.{_≡_};
 ghost use mathlib.Core.List.{[], _∷_};
 ghost use Prim.Native.Nat.{pred};
@@ -9,20 +11,19 @@ ghost use Rattle.theory.specs.Table.{table, row-children, times, named, naming-
 ghost use Rattle.columns.specs.Row.{as-row};
 ghost use Rattle.table.specs.Checked.{Scanned};
 
-fn times_as(child: u16, i: usize) -> usize
+fn times_as(child: usize, i: usize) -> usize
     ensures { λ r. ⌜ r ≡ times i (child ∷ []) ⌝ }
 {
-    if child as usize == i { 1 } else { 0 }
+    if child == i { 1 } else { 0 }
 }
 
 fn times_in_row(w: Row, i: usize) -> usize
     ensures { λ r. ⌜ r ≡ times i (row-children (as-row w)) ⌝ }
 {
-    let kind = w.kind;
-    match kind {
-        3 | 4 | 5 => times_as(w.left, i) + times_as(w.right, i),
-        6 => times_as(w.left, i),
-        _ => 0,
+    match w.children() {
+        Children::Nothing => 0,
+        Children::One { child } => times_as(child, i),
+        Children::Two { left, right } => times_as(left, i) + times_as(right, i),
     }
 }
 
@@ -50,7 +51,7 @@ pub fn naming_checked(kind: &[u8], left: &[u16], right: &[u16]) -> super::Checke
     while i + 1 < kind.len() {
         if times_named(kind, left, right, i) != 1 {
             return super::Checked::Refused {
-                number: 8,
+                number: refusal::NOT_NAMED_ONCE,
                 place: i,
             };
         }

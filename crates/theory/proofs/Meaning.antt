@@ -73,6 +73,9 @@ right-is e = ap (λ (v : Row). v .right) e
 pub row-is : {w : Row} {k l r : ℕ} → w .kind ≡ k → w .left ≡ l → w .right ≡ r → w ≡ entry k l r
 row-is a b c = λ j. record { kind = a j; left = b j; right = c j }
 
+pub fits-as : (m : Meaning) (k l r : ℕ) → Numbered m k → fields-fit (meaning k) l r ≡ fields-fit m l r
+fits-as m k l r h = ap (λ n. fields-fit n l r) (meaning-is m k h)
+
 -- A kind whose fields hold children, or that is unknown, has no other field.
 pub fits-other : (k l r : ℕ) → (k ≡ Kind.empty-language → ⊥) → (k ≡ Kind.empty-word → ⊥) → (k ≡ Kind.letter → ⊥) → (k ≡ Kind.star → ⊥)
     → fields-fit (meaning k) l r ≡ true

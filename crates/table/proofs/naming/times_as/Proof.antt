@@ -1,4 +1,4 @@
--- `table::naming::times_as` meets its contract. Assumes nothing.
+-- `times_as` meets its contract.
 use borrow.Author.Tests.{eq-eqb, ne-eqb}
 use Rattle.theory.specs.Table.{times}
 use Rattle.table.proofs.naming.times_as.Statement.{statement}
