@@ -1,4 +1,4 @@
--- A scan for the first fault, as a loop runs it: how it begins, how it goes on, and the two ways in which it ends. Assumes nothing.
+-- A scan for the first fault, as a loop runs it: how it begins, how it goes on, and the two ways in which it ends.
 use Prim.Native.Nat.{ℕ, _+_, _-_, _≤_, _<_}
 use native.Mathlib.Nat.{sub-zero}
 use native.Mathlib.Omega.{arith}

@@ -27,7 +27,9 @@ returns-2 c =
     sym (children-sign w (s .0) (s .1))
 
 returns-3 : tie.Need-returns-3
-returns-3 c = let w = as-row (read (c .before) .args .self) in sym (children-none w (no-sign-outside (w .kind) (inl (c .if1 .taken))) (c .before .match .rest .1))
+returns-3 c =
+    let w = as-row (read (c .before) .args .self) in
+    sym (children-none w (no-sign-outside (w .kind) (inl (c .if1 .taken))) (c .before .match .rest .1))
 
 returns-4 : tie.Need-returns-4
 returns-4 c =

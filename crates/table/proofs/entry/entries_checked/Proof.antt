@@ -1,4 +1,4 @@
--- `table::entry::entries_checked` meets its contract. The invariant: the scan of all entries is the scan of those that are left. Assumes nothing.
+-- `entries_checked` meets its contract. The invariant: the scan of all entries is the scan of those that are left.
 use Prim.Native.Nat.{ℕ, _-_}
 use mathlib.Core.Path.{_≡_, sym, ap, _∙_}
 use mathlib.Core.List.{List}
@@ -20,6 +20,24 @@ Inv-loop kind left right i₀ i = Scanning (faults kind left right) (length kind
 abbrev μ-loop : tie.MeasureT-loop
 μ-loop kind left right i₀ i = length kind - i
 
+-- ---- The places: the entry, the turn's start, and its fault told
+
+abbrev begun : tie.At-loop Inv-loop μ-loop → tie.After-shared-slice-known Inv-loop μ-loop
+begun c = c .before .before .before
+
+abbrev turn : tie.After-fault Inv-loop μ-loop → tie.In-loop Inv-loop μ-loop
+turn c = c .before .before
+
+-- What is wrong with each of the entries lent.
+abbrev faults-lent : tie.At-loop Inv-loop μ-loop → ℕ → ℕ
+faults-lent c = let a = begun c .before .args in faults (now (a .kind)) (now (a .left)) (now (a .right))
+
+-- The number is the fault of entry i.
+number-is : (c : tie.After-fault Inv-loop μ-loop) → c .fault .result ≡ faults-lent (turn c .before) (turn c .before .loop .i)
+number-is c = c .fault .ensures ∙ ap (entry-fault _ _) (c .before .row-at .ensures)
+
+-- ---- The needs
+
 loop-holds : tie.Need-loop-holds Inv-loop μ-loop
 loop-holds c = scan-begins _ _
 
@@ -29,16 +47,10 @@ row-at-requires c κs = search needs
 fault-requires : tie.Need-fault-requires Inv-loop μ-loop
 fault-requires c κs = search needs
 
--- The number is the fault of entry i.
-number-is : (c : tie.After-fault Inv-loop μ-loop)
-    → c .fault .result
-    ≡ faults (now (c .before .before .before .before .before .before .before .args .kind))
-    (now (c .before .before .before .before .before .before .before .args .left))
-    (now (c .before .before .before .before .before .before .before .args .right)) (c .before .before .before .loop .i)
-number-is c = c .fault .ensures ∙ ap (entry-fault _ _) (c .before .row-at .ensures)
-
 returns : tie.Need-returns Inv-loop μ-loop
-returns c = scan-found _ _ _ _ (c .before .before .before .before .loop .inv) (c .before .before .before .loop-test .taken) (number-is (c .before)) (c .if1 .taken)
+returns c =
+    let t = turn (c .before) in
+    scan-found _ _ _ _ (t .before .loop .inv) (t .loop-test .taken) (number-is (c .before)) (c .if1 .taken)
 
 add-i : tie.Need-add-i Inv-loop μ-loop
 add-i c = search needs
@@ -47,7 +59,9 @@ loop-less : tie.Need-loop-less Inv-loop μ-loop
 loop-less c = search needs
 
 loop-again : tie.Need-loop-again Inv-loop μ-loop
-loop-again c = scan-over _ _ _ (c .before .before .before .before .loop .inv) (c .before .before .before .loop-test .taken) (sym (number-is (c .before)) ∙ c .if1 .left)
+loop-again c =
+    let t = turn (c .before) in
+    scan-over _ _ _ (t .before .loop .inv) (t .loop-test .taken) (sym (number-is (c .before)) ∙ c .if1 .left)
 
 returns-2 : tie.Need-returns-2 Inv-loop μ-loop
 returns-2 c = scan-ends _ _ _ (c .before .loop .inv) (c .loop-test .left)

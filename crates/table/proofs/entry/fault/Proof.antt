@@ -1,4 +1,4 @@
--- `table::entry::fault` meets its contract: the tests in 01's order. Assumes nothing.
+-- `fault` meets its contract: the tests in 01's order.
 use borrow.Author.Needs.{needs}
 use borrow.Author.Tests.{lt-ltb, le-ltb, eq-eqb, ne-eqb}
 use mathlib.Core.Logic.{⊎-elim}

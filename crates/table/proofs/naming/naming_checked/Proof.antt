@@ -1,9 +1,9 @@
--- `table::naming::naming_checked` meets its contract. The invariant: the scan of all entries but the last is the scan of those that are left.
--- Assumes nothing.
+-- `naming_checked` meets its contract. The invariant: the scan of all entries but the last is the scan of those that are left.
 use Prim.Native.Nat.{_-_, pred}
 use native.Mathlib.Omega.{arith}
 use mathlib.Core.Path.{sym, _∙_}
 use lib.ListN.{length}
+use Rattle.theory.specs.Refusal.{not-named-once}
 use Rattle.theory.specs.Table.{table, naming-fault}
 use Rattle.theory.proofs.Times.{fault-none, fault-found}
 use Rattle.table.proofs.Scanning.{Scanning, scan-begins, scan-over, scan-found, scan-ends}
@@ -28,7 +28,7 @@ times-named-requires c κs = search needs
 
 returns : tie.Need-returns Inv-loop μ-loop
 returns c =
-    scan-found _ _ _ 8 (c .before .before .before .loop .inv) (omega arith)
+    scan-found _ _ _ not-named-once (c .before .before .before .loop .inv) (omega arith)
     (sym (fault-found _ _ (λ e. c .if1 .taken (c .before .times-named .ensures ∙ e)))) (omega arith)
 
 add-i : tie.Need-add-i Inv-loop μ-loop
