@@ -1,5 +1,6 @@
 pub mod Column
 pub mod Below
+pub mod Arcs
 pub mod Reached
 pub mod Distinct
 pub mod Repeats
@@ -29,8 +30,10 @@ pub mod FirstFound
 pub mod Due
 pub mod Expressed
 pub mod Answers
-pub mod Room
+pub mod BuilderRefusal
+pub mod Column
 pub mod Filled
 pub mod Needs
 pub mod Accepts
+pub mod MatcherRefusal
 pub mod Verdicts
