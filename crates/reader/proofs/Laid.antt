@@ -1,4 +1,4 @@
--- Rows laid into columns: run after run, from the front on, and into columns of zeros. Assumes nothing.
+-- Rows laid into columns: run after run, from the front on, and into columns of zeros.
 use Prim.Native.Nat.{ℕ, zero, suc, _+_, _-_, _≤_}
 use native.Mathlib.Nat.{add-zero, add-suc, suc-add, zero-add, zero-sub}
 use native.Mathlib.Numerals.{unary-clauses}
@@ -7,8 +7,12 @@ use mathlib.Core.List.{List, [], _∷_, _++_, map, map-append}
 use lib.ListN.{length, set, drop, length-map, length-replicate}
 use lib.Seq.{sets, sets-eq}
 use Rattle.theory.specs.Column.{zeros, filled}
-use Rattle.theory.specs.Table.{Table, Row}
+use Rattle.theory.specs.Table.{Table, table, Row}
 use Rattle.reader.specs.Found.{laid}
+
+-- The three columns as a call leaves them.
+abbrev pub left-by-call : List ℕ × (List ℕ × (List ℕ × Unit {0})) → Table
+left-by-call last = table (last .0) (last .1 .0) (last .1 .1 .0)
 
 sets-append : (l : List ℕ) (i : ℕ) (xs ys : List ℕ) → sets l i (xs ++ ys) ≡ sets (sets l i xs) (i + length xs) ys
 sets-append l i [] ys = rw add-zero

@@ -13,7 +13,7 @@ use Rattle.reader.specs.Found.{Entry, Start, Behind, Answered}
 use Rattle.reader.proofs.Stepped.{Stepped}
 use Rattle.reader.proofs.Answers.{star-row, star-answers}
 
--- Whatever stood before place at₀, with stars behind it, stands before place `at`.
+-- Whatever stood before place at₀ stands before place `at`, with the stars that follow it.
 pub record Starred (room : ℕ) (text : Text) (at₀ made₀ : ℕ) (t₀ : Table) (at made : ℕ) (t : Table) : Type 0 where
   pub onward : (s : Start) → Behind room text s at₀ made₀ t₀ → Behind room text s at made t
   pub positive : 0 < made
@@ -22,15 +22,15 @@ pub record Starred (room : ℕ) (text : Text) (at₀ made₀ : ℕ) (t₀ : Tabl
   pub left : length (t .left) ≡ length (t₀ .left)
   pub right : length (t .right) ≡ length (t₀ .right)
 
-module _ (room : ℕ) (text : Text) (at₀ made₀ : ℕ) (t₀ : Table) (at made byte : ℕ) (t : Table) (x : Starred room text at₀ made₀ t₀ at made t)
-    (cursor : Cursor) (h : Stepped text at byte cursor) (e : byte ≡ byte-*) where
+module _ {room : ℕ} {text : Text} {at₀ made₀ : ℕ} {t₀ : Table} {at made byte : ℕ} {t : Table} (x : Starred room text at₀ made₀ t₀ at made t)
+    {cursor : Cursor} (h : Stepped text at byte cursor) (e : byte ≡ byte-*) where
   pub starred-answers : (r : Found) (t′ : Table) → Entry room made cursor (star-row made ∷ []) t r t′
       → (s : Start) → Behind room text s at₀ made₀ t₀ → Answered room text s r t′
   starred-answers r t′ i s y = star-answers room text s at made t (x .onward s y) byte cursor h e r t′ i
 
-  pub starred-more : (made′ : ℕ) (cursor′ : Cursor) (t′ : Table) → Entry room made cursor (star-row made ∷ []) t (Value made′ cursor′) t′
+  pub starred-more : {made′ : ℕ} {cursor′ : Cursor} {t′ : Table} → Entry room made cursor (star-row made ∷ []) t (Value made′ cursor′) t′
       → Starred room text at₀ made₀ t₀ (cursor′ .at) made′ t′
-  starred-more made′ cursor′ t′ i =
+  starred-more {made′} {cursor′} {t′} i =
       record {
         onward = starred-answers (Value made′ cursor′) t′ i;
         positive = omega (arith, i .1);

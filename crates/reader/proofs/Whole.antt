@@ -47,10 +47,10 @@ unfolding next token
 zero-next b e = rw e
 
 module _ (room : ℕ) (text : Text) (t : Table) where
-  pub begun-zero : (at : Point) → at ≡ at-start room → (byte : ℕ) (cursor : Cursor) → Stepped text (at .cursor .at) byte cursor → byte ≡ byte-0
+  pub begun-zero : (at : Point) → at ≡ at-start room → {byte : ℕ} {cursor : Cursor} → Stepped text (at .cursor .at) byte cursor → byte ≡ byte-0
       → (r : Found) (t′ : Table) → Entry room (at .made) cursor (empty-row ∷ []) t r t′ → Begun room text t r t′
   unfolding scan open-at makes-entry finish next entries rows
-  begun-zero at z byte cursor i e r t′ h =
+  begun-zero at z {byte} {cursor} i e r t′ h =
       go r (subst (λ (p : Point). Stepped text (p .cursor .at) byte cursor) z i) (subst (λ (p : Point). Entry room (p .made) cursor (empty-row ∷ []) t r t′) z h)
     where
       go : (r : Found) → Stepped text 0 byte cursor → Entry room 0 cursor (empty-row ∷ []) t r t′ → Begun room text t r t′
