@@ -9,13 +9,13 @@ use Rattle.theory.specs.Grammar.{Text, byte-*}
 use Rattle.columns.specs.declared.Cursor.{Cursor}
 use Rattle.reader.specs.declared.entries.Found.{Found}
 use Rattle.reader.specs.declared.entries.Found.the-variants.{Value}
-use Rattle.reader.specs.Found.{Entry, Start, Behind, Answered}
+use Rattle.reader.specs.Found.{Entry, Start, After, Answered}
 use Rattle.reader.proofs.Stepped.{Stepped}
 use Rattle.reader.proofs.Answers.{star-row, star-answers}
 
 -- Whatever stood before place at₀ stands before place `at`, with the stars that follow it.
 pub record Starred (room : ℕ) (text : Text) (at₀ made₀ : ℕ) (t₀ : Table) (at made : ℕ) (t : Table) : Type 0 where
-  pub onward : (s : Start) → Behind room text s at₀ made₀ t₀ → Behind room text s at made t
+  pub onward : (s : Start) → After room text s at₀ made₀ t₀ → After room text s at made t
   pub positive : 0 < made
   pub fits : made ≤ room
   pub kind : length (t .kind) ≡ length (t₀ .kind)
@@ -25,7 +25,7 @@ pub record Starred (room : ℕ) (text : Text) (at₀ made₀ : ℕ) (t₀ : Tabl
 module _ {room : ℕ} {text : Text} {at₀ made₀ : ℕ} {t₀ : Table} {at made byte : ℕ} {t : Table} (x : Starred room text at₀ made₀ t₀ at made t)
     {cursor : Cursor} (h : Stepped text at byte cursor) (e : byte ≡ byte-*) where
   pub starred-answers : (r : Found) (t′ : Table) → Entry room made cursor (star-row made ∷ []) t r t′
-      → (s : Start) → Behind room text s at₀ made₀ t₀ → Answered room text s r t′
+      → (s : Start) → After room text s at₀ made₀ t₀ → Answered room text s r t′
   starred-answers r t′ i s y = star-answers room text s at made t (x .onward s y) byte cursor h e r t′ i
 
   pub starred-more : {made′ : ℕ} {cursor′ : Cursor} {t′ : Table} → Entry room made cursor (star-row made ∷ []) t (Value made′ cursor′) t′

@@ -16,9 +16,9 @@ use Rattle.theory.specs.Refusal.{refusal, not-grammar, columns-differ, text-lon
 use Rattle.theory.specs.Column.{zeros, filled}
 use Rattle.theory.specs.Table.{Table, Row}
 use Rattle.theory.specs.Grammar.{Text, Reading, read, refused, Reads, rows, byte-0, makes-entry}
-use Rattle.theory.specs.Scan.{token, before, behind, ended, next, open-at, finish, scan}
+use Rattle.theory.specs.Scan.{token, before, after, ended, next, open-at, finish, scan}
 use Rattle.theory.specs.Read.{Due, differ, long, short, Read}
-use Rattle.theory.proofs.Scan.{at-end, at-broken, at-many, at-entry, behind-all}
+use Rattle.theory.proofs.Scan.{at-end, at-broken, at-many, at-entry, after-all}
 use Rattle.theory.proofs.Grammar.{scan-reads}
 use Rattle.theory.proofs.Rows.{rows-length, read-fits}
 use Rattle.columns.specs.declared.Cursor.{Cursor}
@@ -42,15 +42,15 @@ begun-empty room text at z l = at-end room text 0 0 (before []) (subst (λ (p : 
 abbrev empty-row : Row
 empty-row = record { kind = 0; left = 0; right = 0 }
 
-zero-next : (b : ℕ) → b ≡ byte-0 → next (before []) (token b) ≡ some ended
+∅-next : (b : ℕ) → b ≡ byte-0 → next (before []) (token b) ≡ some ended
 unfolding next token
-zero-next b e = rw e
+∅-next b e = rw e
 
 module _ (room : ℕ) (text : Text) (t : Table) where
-  pub begun-zero : (at : Point) → at ≡ at-start room → {byte : ℕ} {cursor : Cursor} → Stepped text (at .cursor .at) byte cursor → byte ≡ byte-0
+  pub begun-∅ : (at : Point) → at ≡ at-start room → {byte : ℕ} {cursor : Cursor} → Stepped text (at .cursor .at) byte cursor → byte ≡ byte-0
       → (r : Found) (t′ : Table) → Entry room (at .made) cursor (empty-row ∷ []) t r t′ → Begun room text t r t′
   unfolding scan open-at makes-entry finish next entries rows
-  begun-zero at z {byte} {cursor} i e r t′ h =
+  begun-∅ at z {byte} {cursor} i e r t′ h =
       go r (subst (λ (p : Point). Stepped text (p .cursor .at) byte cursor) z i) (subst (λ (p : Point). Entry room (p .made) cursor (empty-row ∷ []) t r t′) z h)
     where
       go : (r : Found) → Stepped text 0 byte cursor → Entry room 0 cursor (empty-row ∷ []) t r t′ → Begun room text t r t′
@@ -60,7 +60,7 @@ module _ (room : ℕ) (text : Text) (t : Table) where
           record {
             expression = ∅;
             stand = ended;
-            reads = rw (next-at, h .1) (at-entry room text 0 0 (before []) (i .inside) ended (zero-next (getD text 0 0) here) (omega arith) (rw here) (h .0));
+            reads = rw (next-at, h .1) (at-entry room text 0 0 (before []) (i .inside) ended (∅-next (getD text 0 0) here) (omega arith) (rw here) (h .0));
             whole = refl;
             ended = λ l. refl;
             counted = h .1;
@@ -68,7 +68,7 @@ module _ (room : ℕ) (text : Text) (t : Table) where
           }
       go (Refused number place) i h =
           let here : getD text 0 0 ≡ byte-0 = i .here ∙ e in
-          rw (h .1, h .2 ∙ byte-before i) (at-many room text 0 0 (before []) (i .inside) ended (zero-next (getD text 0 0) here) (omega arith) (rw here) (h .0))
+          rw (h .1, h .2 ∙ byte-before i) (at-many room text 0 0 (before []) (i .inside) ended (∅-next (getD text 0 0) here) (omega arith) (rw here) (h .0))
 
   pub begun-expression : (at : Point) → at ≡ at-start room → (r : Found) (t′ : Table) → Answered room text (begins at t) r t′ → Unstarred text r
       → Begun room text t r t′
@@ -79,10 +79,10 @@ module _ (room : ℕ) (text : Text) (t : Table) where
       go (Value made cursor) n x =
           record {
             expression = x .expression;
-            stand = behind (x .expression) [];
+            stand = after (x .expression) [];
             reads = x .reads [] refl;
             whole = refl;
-            ended = λ l. behind-all (x .expression) (getD text (cursor .at) 0) n;
+            ended = λ l. after-all (x .expression) (getD text (cursor .at) 0) n;
             counted = x .counted ∙ zero-add (entries (x .expression));
             laid-out = x .laid-out;
           }

@@ -1,4 +1,4 @@
--- What the reader's rules owe each other: told by the scan of `theory`, which goes on from behind what a rule found.
+-- What the reader's rules owe each other: told by the scan of `theory`, which goes on from after what a rule found.
 use Prim.Native.Nat.{ℕ, _+_, _-_, _≤_, _<_}
 use mathlib.Core.Path.{_≡_}
 use mathlib.Core.Logic.{_⊎_}
@@ -10,7 +10,7 @@ use Rattle.theory.specs.Expression.{Expression, Sign, ε, letter, entries}
 use Rattle.theory.specs.Refusal.{refusal, not-grammar, too-many-entries}
 use Rattle.theory.specs.Table.{Table, table, Row, kind-of-sign}
 use Rattle.theory.specs.Grammar.{Text, Reading, refused, rows, sign-byte, byte-0, byte-close, byte-*}
-use Rattle.theory.specs.Scan.{Token, opening, closing, starring, zero, unit, other, signing, naming, Frame, Stand, before, behind, scan-from}
+use Rattle.theory.specs.Scan.{Token, opening, closing, starring, ∅-token, ε-token, other, signing, naming, Frame, Stand, before, after, scan-from}
 use Rattle.columns.specs.declared.Cursor.{Cursor}
 use Rattle.columns.specs.Row.{as-row}
 use Rattle.reader.specs.declared.entries.Point.{Point}
@@ -41,8 +41,8 @@ unfoldable pub leaf-of : Token → Option Expression
 leaf-of opening = none
 leaf-of closing = none
 leaf-of starring = none
-leaf-of zero = none
-leaf-of unit = some ε
+leaf-of ∅-token = none
+leaf-of ε-token = some ε
 leaf-of other = none
 leaf-of (signing s) = none
 leaf-of (naming a) = some (letter a)
@@ -91,12 +91,12 @@ pub record May-begin (room : ℕ) (text : Text) (s : Start) : Type 0 where
   pub shallow : s .depth ≤ 64
   pub within : s .at ≤ length text
   pub fits : s .made ≤ room
-  pub no-zero : s .depth ≡ 0 → getD text (s .at) 0 ≡ byte-0 → ⊥
+  pub no-∅ : s .depth ≡ 0 → getD text (s .at) 0 ≡ byte-0 → ⊥
 
--- An expression stands between s and place `at`: the scan goes on behind it, and its rows are made.
-pub record Behind (room : ℕ) (text : Text) (s : Start) (at made : ℕ) (t : Table) : Type 0 where
+-- An expression stands between s and place `at`: the scan goes on after it, and its rows are made.
+pub record After (room : ℕ) (text : Text) (s : Start) (at made : ℕ) (t : Table) : Type 0 where
   pub expression : Expression
-  pub reads : (fs : List Frame) → length fs ≡ s .depth → scan-at room text (s .at) (s .made) (before fs) ≡ scan-at room text at made (behind expression fs)
+  pub reads : (fs : List Frame) → length fs ≡ s .depth → scan-at room text (s .at) (s .made) (before fs) ≡ scan-at room text at made (after expression fs)
   pub shallow : s .depth ≤ 64
   pub onward : s .at < at
   pub within : at ≤ length text
@@ -104,9 +104,9 @@ pub record Behind (room : ℕ) (text : Text) (s : Start) (at made : ℕ) (t : Ta
   pub fits : made ≤ room
   pub laid-out : t ≡ laid (s .made) (rows (s .made) expression) (s .columns)
 
--- A rule's answer: the expression behind which it stopped, or the refusal that the scan gives.
+-- A rule's answer: the expression after which it stopped, or the refusal that the scan gives.
 abbrev pub Answered : (room : ℕ) → Text → Start → Found → Table → Type 0
-Answered room text s (Value made cursor) t′ = Behind room text s (cursor .at) made t′
+Answered room text s (Value made cursor) t′ = After room text s (cursor .at) made t′
 Answered room text s (Refused number place) t′ =
     (fs : List Frame) → length fs ≡ s .depth → scan-at room text (s .at) (s .made) (before fs) ≡ refused (refusal number place)
 

@@ -19,7 +19,7 @@ use Rattle.reader.specs.Found.{laid, scan-at}
 abbrev pub at-start : ℕ → Point
 at-start room = record { cursor = record { at = 0 }; depth = 0; made = 0; room = room }
 
--- `0` or an expression stands before place `at`, behind which the grammar allows no other byte.
+-- `0` or an expression stands before place `at`, after which the grammar allows no other byte.
 pub record Beginning (room : ℕ) (text : Text) (at made : ℕ) (t t′ : Table) : Type 0 where
   pub expression : Expression
   pub stand : Stand

@@ -51,7 +51,7 @@ module _ (room : ℕ) (s : Text) (c : Stand) (r : run start s ≡ some c) (passe
       rw (step-on room s c r b t c′ e (omega arith) (omega arith))
       (rest c′ e (passed-on room s b passed (run-viable (s ++ b ∷ []) c′ e) (omega arith) (omega arith)))
 
--- From behind any start that passes.
+-- From after any start that passes.
 pub scan-from-reads : (room : ℕ) (t s : Text) (c : Stand) → run start s ≡ some c → Passed room s
     → Reads room (s ++ t) (scan-from room (length s) (made s) c t)
 unfolding scan-from

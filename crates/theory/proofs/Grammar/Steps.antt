@@ -1,4 +1,4 @@
--- What the scan does behind a text s that it ran over, told by s: at the text's end, and at a next byte b, which ends it or not.
+-- What the scan does after a text s that it ran over, told by s: at the text's end, and at a next byte b, which ends it or not.
 use Prim.Native.Nat.{ℕ, suc, _+_, _≤_, _<_}
 use native.Mathlib.Omega.{arith}
 use native.Mathlib.Numerals.{add-one}
@@ -13,7 +13,7 @@ use borrow.Author.Tests.{lt-ltb, le-ltb}
 use Rattle.theory.specs.Expression.{∅}
 use Rattle.theory.specs.Refusal.{Refusal, refusal, not-grammar, too-deep, too-many-entries}
 use Rattle.theory.specs.Grammar.{Text, written, Whole, read, refused, makes-entry, depth, made}
-use Rattle.theory.specs.Scan.{Stand, before, behind, ended, next, token, open-at, finish, scan-from}
+use Rattle.theory.specs.Scan.{Stand, before, after, ended, next, token, open-at, finish, scan-from}
 use Rattle.theory.proofs.Grammar.Run.{run, start, run-append, finish-whole}
 use Rattle.theory.proofs.Grammar.Spell.{spell, spelled, inner-writable, whole-run}
 use Rattle.theory.proofs.Grammar.Count.{made-append, depth-run}
@@ -28,8 +28,8 @@ pub end-decides : (s : Text) (c : Stand) → run start s ≡ some c → (p : ℕ
     → ((w : Whole s) × (finish p c ≡ read (w .0))) ⊎ (¬ (Whole s) × (finish p c ≡ refused (refusal not-grammar p)))
 unfolding finish written spell
 end-decides s (before fs) r p = inr (not-whole s (before fs) (refusal not-grammar 0) r refl, refl)
-end-decides s (behind e []) r p = let h = spelled s (behind e []) r in inl ((e, inner-writable e (h .0 .0), h .1), refl)
-end-decides s (behind e (f ∷ fs)) r p = inr (not-whole s (behind e (f ∷ fs)) (refusal not-grammar 0) r refl, refl)
+end-decides s (after e []) r p = let h = spelled s (after e []) r in inl ((e, inner-writable e (h .0 .0), h .1), refl)
+end-decides s (after e (f ∷ fs)) r p = inr (not-whole s (after e (f ∷ fs)) (refusal not-grammar 0) r refl, refl)
 end-decides s ended r p = inl ((∅, tt, spelled s ended r .1), refl)
 
 -- ---- At a byte

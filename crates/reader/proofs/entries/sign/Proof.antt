@@ -40,4 +40,6 @@ unsigned c =
 
 pub sign-spec : {M : Type 1} → statement M
 sign-spec =
-    tie.close (tie.spec (λ c κs. search needs) (λ c. search needs) (λ c. search needs) text-ended plus dot ampersand unsigned)
+    tie.close
+    (tie.spec (λ c κs. search needs) (λ c. search needs) (λ c. search needs) text-ended
+    (λ c. search needs) (λ c. search needs) (λ c. search needs) plus dot ampersand unsigned)

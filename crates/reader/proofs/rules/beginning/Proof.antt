@@ -6,7 +6,7 @@ use Rattle.theory.specs.Table.{Table, table}
 use Rattle.reader.specs.declared.entries.Point.{Point}
 use Rattle.reader.proofs.Laid.{left-by-call}
 use Rattle.reader.proofs.Stepped.{Stepped, step-end, step-byte}
-use Rattle.reader.proofs.Whole.{begun-empty, begun-zero, begun-expression}
+use Rattle.reader.proofs.Whole.{begun-empty, begun-∅, begun-expression}
 use Rattle.reader.proofs.rules.beginning.Statement.{statement}
 use Rattle.reader.proofs.rules.beginning.Tie as tie
 
@@ -21,8 +21,8 @@ entered c = known (c .before) .before .before
 abbrev lent : tie.Start → Table
 lent c = table (c .args .kind .now) (c .args .left .now) (c .args .right .now)
 
-abbrev zero-byte : tie.After-entry-arg3 → tie.Then1
-zero-byte c = c .before .before .before
+abbrev ∅-byte : tie.After-entry-arg3 → tie.Then1
+∅-byte c = c .before .before .before
 
 abbrev entry-home : tie.After-slice-known6 → tie.After-left
 entry-home c = c .before .before .before
@@ -46,14 +46,14 @@ text-empty c =
     (step-end (s .args .text .now) (c .before .before .step .ensures) (c .enum-told .given .1))
 
 entry-asked : tie.Need-entry-requires
-entry-asked c κs = (search needs, omega (arith, stepped (zero-byte c .before .before) .next))
+entry-asked c κs = (search needs, omega (arith, stepped (∅-byte c .before .before) .next))
 
-zero-read : tie.Need-returns-2
-zero-read c =
+∅-read : tie.Need-returns-2
+∅-read c =
     let called = entry-home c .before .before .before in
-    let byte = zero-byte (called .before) .before .before in
+    let byte = ∅-byte (called .before) .before .before in
     let s = entered (byte .before .before) in
-    begun-zero (s .args .at .room) (s .args .text .now) (lent s) (s .args .at) (s .pre .1) (stepped byte) (zero-byte (called .before) .if1 .taken)
+    begun-∅ (s .args .at .room) (s .args .text .now) (lent s) (s .args .at) (s .pre .1) (stepped byte) (∅-byte (called .before) .if1 .taken)
     (called .entry .result) (left-by-call (called .entry .last .1 .1)) (called .entry .ensures)
 
 expression-asked : tie.Need-expression-requires
@@ -66,7 +66,7 @@ expression-asked c κs =
       shallow = omega (arith, ap (λ (p : Point). p .depth) (s .pre .1));
       within = omega (arith, at .inside);
       fits = omega (arith, ap (λ (p : Point). p .made) (s .pre .1));
-      no-zero = λ _ e. other-byte c .if1 .left (sym (at .here) ∙ e);
+      no-∅ = λ _ e. other-byte c .if1 .left (sym (at .here) ∙ e);
     }
 
 expression-read : tie.Need-returns-3
@@ -80,5 +80,5 @@ pub beginning-spec : {M : Type 1} → statement M
 beginning-spec =
     tie.close
     (tie.spec (λ c κs. search needs) (λ c. search needs) (λ c. search needs) text-empty
-    entry-asked (λ c. search needs) (λ c. search needs) (λ c. search needs) zero-read
+    entry-asked (λ c. search needs) (λ c. search needs) (λ c. search needs) ∅-read
     expression-asked (λ c. search needs) (λ c. search needs) (λ c. search needs) expression-read)

@@ -7,7 +7,7 @@ use Rattle.reader.specs.declared.entries.Found.{Found}
 use Rattle.reader.specs.declared.entries.Found.the-variants.{Value}
 use Rattle.reader.specs.Found.{begins, Answered, Unstarred}
 use Rattle.reader.proofs.Laid.{left-by-call}
-use Rattle.reader.proofs.Answers.{behind-positive}
+use Rattle.reader.proofs.Answers.{after-positive}
 use Rattle.reader.proofs.rules.+expression+operand.Lts-expression as lts
 use Rattle.reader.proofs.rules.+expression+operand.Proof.Claims.{Of-expression as Of}
 
@@ -52,7 +52,7 @@ module _ (t : ℕ) where
       (called .operand .ensures, subst (Unstarred (entry called .args .text .now)) (sym (c .enum-told .given .1)) tt)
 
   pub stars-asked : Of t lts.Need-stars-requires
-  stars-asked c κs = let x = first-found (first-taken c .before) in (search needs, behind-positive _ _ x, x .fits)
+  stars-asked c κs = let x = first-found (first-taken c .before) in (search needs, after-positive _ _ x, x .fits)
 
   pub expression-read : Of t lts.Need-returns-2
   expression-read c =

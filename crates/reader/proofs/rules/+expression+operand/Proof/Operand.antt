@@ -12,7 +12,7 @@ use Rattle.reader.specs.declared.entries.Found.the-variants.{Value}
 use Rattle.reader.specs.Found.{Leaf-row, Sign-at, Start, begins, Answered, Unstarred}
 use Rattle.reader.proofs.Laid.{left-by-call}
 use Rattle.reader.proofs.Stepped.{Stepped, step-end, step-byte}
-use Rattle.reader.proofs.Answers.{end-answers, leaf-refused, leaf-made, behind-positive}
+use Rattle.reader.proofs.Answers.{end-answers, leaf-refused, leaf-made, after-positive}
 use Rattle.reader.proofs.Pair.{Inside, Left, Signed, within-pair, inside, deep-answers, left, left-refused, signed-on, signed-kind, sign-refused, right-refused, pair-answers}
 use Rattle.reader.proofs.rules.+expression+operand.Lts-operand as lts
 use Rattle.reader.proofs.rules.+expression+operand.Proof.Claims.{Of-operand as Of}
@@ -92,7 +92,7 @@ module _ (t : ℕ) where
       let x = left-found (right-left t c) in
       let y = right-found c in
       let small = left-entry t (right-left t c) .pre .1 .room-left .small in
-      (behind-positive _ _ x, omega (arith, x .fits), behind-positive _ _ y, omega (arith, y .fits))
+      (after-positive _ _ x, omega (arith, x .fits), after-positive _ _ y, omega (arith, y .fits))
 
   -- ---- Its needs
 
@@ -138,7 +138,7 @@ module _ (t : ℕ) where
           shallow = omega (arith, pre .1 .shallow);
           within = omega (arith, at .inside, at .next);
           fits = pre .1 .fits;
-          no-zero = λ z. omega arith;
+          no-∅ = λ z. omega arith;
         },
       )
 
@@ -162,7 +162,7 @@ module _ (t : ℕ) where
           shallow = omega (arith, x .shallow);
           within = x .within;
           fits = x .fits;
-          no-zero = λ z. omega arith;
+          no-∅ = λ z. omega arith;
         },
       )
 
