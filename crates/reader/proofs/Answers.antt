@@ -64,8 +64,8 @@ module _ (room : ℕ) (text : Text) where
         record {
           expression = x;
           reads = λ fs d. rw (next-at, more)
-              (at-entry room text (s .at) (s .made) (before fs) (i .inside) (after x fs) (leaf-next fs (token (getD text (s .at) 0)) x (leaf-here e)) (omega arith)
-              (leaf-makes (getD text (s .at) 0) x (leaf-here e)) (h .0));
+              (at-entry room text (s .at) (s .made) (before fs) (i .inside) (after x fs) (leaf-next fs (token (getD text (s .at) 0)) x (leaf-here e))
+              (omega arith) (leaf-makes (getD text (s .at) 0) x (leaf-here e)) (h .0));
           shallow = b .shallow;
           onward = omega arith;
           within = omega arith;
@@ -75,8 +75,8 @@ module _ (room : ℕ) (text : Text) where
         }
     leaf-made w x e q (Refused number place) t′ h = λ fs d.
         rw (h .1, h .2 ∙ byte-before i)
-        (at-many room text (s .at) (s .made) (before fs) (i .inside) (after x fs) (leaf-next fs (token (getD text (s .at) 0)) x (leaf-here e)) (omega (arith, b .shallow))
-        (leaf-makes (getD text (s .at) 0) x (leaf-here e)) (h .0))
+        (at-many room text (s .at) (s .made) (before fs) (i .inside) (after x fs) (leaf-next fs (token (getD text (s .at) 0)) x (leaf-here e))
+        (omega (arith, b .shallow)) (leaf-makes (getD text (s .at) 0) x (leaf-here e)) (h .0))
 
   -- ---- A star
 
@@ -98,7 +98,9 @@ module _ (room : ℕ) (text : Text) where
       let more = h .1 in
       record {
         expression = star (x .expression);
-        reads = λ fs d. x .reads fs d ∙ rw (next-at, more) (at-entry room text at made (after (x .expression) fs) l (after (star (x .expression)) fs) (after-star (x .expression) fs (getD text at 0) (i .here ∙ b)) (omega (arith, x .shallow)) (rw (i .here ∙ b)) (h .0));
+        reads = λ fs d. x .reads fs d ∙ rw (next-at, more)
+            (at-entry room text at made (after (x .expression) fs) l (after (star (x .expression)) fs)
+            (after-star (x .expression) fs (getD text at 0) (i .here ∙ b)) (omega (arith, x .shallow)) (rw (i .here ∙ b)) (h .0));
         shallow = x .shallow;
         onward = omega (arith, x .onward);
         within = omega arith;
@@ -107,7 +109,9 @@ module _ (room : ℕ) (text : Text) where
         laid-out = h .3 ∙ rw (x .laid-out, x .counted) (star-laid (s .made) (x .expression) (s .columns));
       }
   star-answers s at made t x byte cursor i b (Refused number place) t′ h = λ fs d.
-      x .reads fs d ∙ rw (h .1, h .2 ∙ byte-before i) (at-many room text at made (after (x .expression) fs) (i .inside) (after (star (x .expression)) fs) (after-star (x .expression) fs (getD text at 0) (i .here ∙ b)) (omega (arith, x .shallow)) (rw (i .here ∙ b)) (h .0))
+      x .reads fs d ∙ rw (h .1, h .2 ∙ byte-before i)
+      (at-many room text at made (after (x .expression) fs) (i .inside) (after (star (x .expression)) fs)
+      (after-star (x .expression) fs (getD text at 0) (i .here ∙ b)) (omega (arith, x .shallow)) (rw (i .here ∙ b)) (h .0))
 
   pub after-positive : {s : Start} {at made : ℕ} {t : Table} → After room text s at made t → 0 < made
   after-positive x = omega (arith, x .counted, entries-positive (x .expression))

@@ -22,7 +22,12 @@ column-append : (f : Row → ℕ) (l : List ℕ) (i : ℕ) (vs ws : List Row) �
 column-append f l i vs ws = rw (map-append, ← length-map vs f) (sets-append l i (map f vs) (map f ws))
 
 pub laid-append : (base : ℕ) (vs ws : List Row) (t : Table) → laid base (vs ++ ws) t ≡ laid (base + length vs) ws (laid base vs t)
-laid-append base vs ws t = cc (column-append (λ w. w .kind) (t .kind) base vs ws, column-append (λ w. w .left) (t .left) base vs ws, column-append (λ w. w .right) (t .right) base vs ws)
+laid-append base vs ws t =
+    cc (
+      column-append (λ w. w .kind) (t .kind) base vs ws,
+      column-append (λ w. w .left) (t .left) base vs ws,
+      column-append (λ w. w .right) (t .right) base vs ws,
+    )
 
 drop-zeros : (k n : ℕ) → drop k (zeros n) ≡ zeros (n - k)
 drop-zeros zero n = simp unary-clauses

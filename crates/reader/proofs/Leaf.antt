@@ -1,4 +1,4 @@
--- The bytes that are an expression by themselves, and those that no expression begins with. Assumes nothing.
+-- The bytes that are an expression by themselves, and those that no expression begins with.
 use Prim.Native.Nat.{ℕ}
 use mathlib.Core.Path.{_≡_, refl, sym, ap, subst, _∙_}
 use mathlib.Core.Bool.{true, false}

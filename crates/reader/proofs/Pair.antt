@@ -10,6 +10,7 @@ use mathlib.Core.List.{List, [], _∷_, _++_}
 use lib.ListN.{length, getD, length-append}
 use lib.Dec.{lit≤}
 use Rattle.theory.specs.Expression.{Expression, Sign, union, concatenation, shuffle, binary, entries}
+use Rattle.theory.specs.Limit.{most-open}
 use Rattle.theory.specs.Refusal.{refusal, not-grammar, too-deep, too-many-entries}
 use Rattle.theory.specs.Table.{Table, Row, kind-of-sign}
 use Rattle.theory.specs.Grammar.{Text, refused, rows, sign-byte, byte-open, byte-close, byte-*, makes-entry}
@@ -33,18 +34,18 @@ Comes room text s at made stand =
 
 pub record Inside (room : ℕ) (text : Text) (s : Start) (at : ℕ) : Type 0 where
   pub comes : Comes room text s at (s .made) (λ fs. before (opened ∷ fs))
-  pub shallow : s .depth < 64
+  pub shallow : s .depth < most-open
   pub onward : s .at < at
   pub within : at ≤ length text
 
 module _ {room : ℕ} {text : Text} {s : Start} (b : May-begin room text s) {byte : ℕ} {cursor : Cursor} (i : Stepped text (s .at) byte cursor)
     (o : byte ≡ byte-open) where
-  pub deep-answers : 64 ≤ s .depth → Answered room text s (Refused too-deep (s .at)) (s .columns)
+  pub deep-answers : most-open ≤ s .depth → Answered room text s (Refused too-deep (s .at)) (s .columns)
   unfolding open-at
   deep-answers d fs e =
       at-deep room text (s .at) (s .made) (before fs) (i .inside) (before (opened ∷ fs)) (before-opening fs (getD text (s .at) 0) (i .here ∙ o)) (omega arith)
 
-  pub inside : s .depth < 64 → Inside room text s (cursor .at)
+  pub inside : s .depth < most-open → Inside room text s (cursor .at)
   unfolding open-at makes-entry
   inside d =
       let next-at = i .next in
@@ -68,7 +69,7 @@ within-pair s at made t = start (s .depth + 1) at made t
 pub record Half (room : ℕ) (text : Text) (s : Start) (stand : Expression → List Frame → Stand) (at made : ℕ) (t : Table) : Type 0 where
   pub expression : Expression
   pub comes : Comes room text s at made (stand expression)
-  pub shallow : s .depth < 64
+  pub shallow : s .depth < most-open
   pub onward : s .at < at
   pub within : at ≤ length text
   pub counted : made ≡ s .made + entries expression
@@ -211,7 +212,8 @@ module _ {room : ℕ} {text : Text} {s : Start} {kind at made : ℕ} {t : Table}
             → scan-at room text at₂ made₂ c ≡ refused (refusal number at₂)
         go (inl k) =
             rw (k .0)
-            (stuck-here room text at₂ made₂ c (y .within) (λ q. after-unclosed (x .half .expression) (y .expression) (x .sign) fs (getD text at₂ 0) n (k .1 q)) refl)
+            (stuck-here room text at₂ made₂ c (y .within)
+            (λ q. after-unclosed (x .half .expression) (y .expression) (x .sign) fs (getD text at₂ 0) n (k .1 q)) refl)
         go (inr k) =
             rw (k .0)
             (at-many room text at₂ made₂ c (k .1) (after (binary (x .sign) (x .half .expression) (y .expression)) fs)
@@ -235,6 +237,7 @@ module _ {room : ℕ} {text : Text} {s : Start} {kind at made : ℕ} {t : Table}
           fits = omega (arith, h .3, h .2);
           laid-out =
               h .5
-              ∙ rw (y .laid-out, y .counted, x .half .laid-out, x .half .counted, x .kind-is) (pair-laid (s .made) (x .sign) (x .half .expression) (y .expression) (s .columns));
+              ∙ rw (y .laid-out, y .counted, x .half .laid-out, x .half .counted, x .kind-is)
+              (pair-laid (s .made) (x .sign) (x .half .expression) (y .expression) (s .columns));
         }
     pair-answers (Refused number place) t₃ h = close-refused number place t₃ h

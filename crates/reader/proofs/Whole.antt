@@ -12,12 +12,13 @@ use lib.Seq.{sets}
 use lib.Dec.{eqb}
 use borrow.Author.Tests.{eqb-true, eq-eqb}
 use Rattle.theory.specs.Expression.{Expression, ∅, entries}
+use Rattle.theory.specs.Limit.{most-entries, longest-text}
 use Rattle.theory.specs.Refusal.{refusal, not-grammar, columns-differ, text-long}
 use Rattle.theory.specs.Column.{zeros, filled}
 use Rattle.theory.specs.Table.{Table, Row}
 use Rattle.theory.specs.Grammar.{Text, Reading, read, refused, Reads, rows, byte-0, makes-entry}
 use Rattle.theory.specs.Scan.{token, before, after, ended, next, open-at, finish, scan}
-use Rattle.theory.specs.Read.{Due, differ, long, short, Read}
+use Rattle.theory.specs.Read.{Due, differ, long, short, left-by, Read}
 use Rattle.theory.proofs.Scan.{at-end, at-broken, at-many, at-entry, after-all}
 use Rattle.theory.proofs.Grammar.{scan-reads}
 use Rattle.theory.proofs.Rows.{rows-length, read-fits}
@@ -28,7 +29,7 @@ use Rattle.reader.specs.declared.entries.Point.{Point}
 use Rattle.reader.specs.declared.entries.Found.{Found}
 use Rattle.reader.specs.declared.entries.Found.the-variants.{Value, Refused}
 use Rattle.reader.specs.Found.{laid, Entry, start, begins, Answered, Unstarred}
-use Rattle.reader.specs.Whole.{at-start, Beginning, Begun, Whole-read, cleared, left-by, Limited}
+use Rattle.reader.specs.Whole.{at-start, Beginning, Begun, Whole-read, cleared, Limited}
 use Rattle.reader.proofs.Laid.{laid-zeros}
 use Rattle.reader.proofs.Stepped.{Stepped, byte-before}
 
@@ -51,7 +52,8 @@ module _ (room : ℕ) (text : Text) (t : Table) where
       → (r : Found) (t′ : Table) → Entry room (at .made) cursor (empty-row ∷ []) t r t′ → Begun room text t r t′
   unfolding scan open-at makes-entry finish next entries rows
   begun-∅ at z {byte} {cursor} i e r t′ h =
-      go r (subst (λ (p : Point). Stepped text (p .cursor .at) byte cursor) z i) (subst (λ (p : Point). Entry room (p .made) cursor (empty-row ∷ []) t r t′) z h)
+      go r (subst (λ (p : Point). Stepped text (p .cursor .at) byte cursor) z i)
+      (subst (λ (p : Point). Entry room (p .made) cursor (empty-row ∷ []) t r t′) z h)
     where
       go : (r : Found) → Stepped text 0 byte cursor → Entry room 0 cursor (empty-row ∷ []) t r t′ → Begun room text t r t′
       go (Value made cursor′) i h =
@@ -124,8 +126,13 @@ not-both a b n h e = yes-no (sym h ∙ rw (eq-eqb a n (e .0), eq-eqb b n (e .1))
 -- ---- The columns
 
 laid-cleared : (e : Expression) (t : Table) → entries e ≤ length (t .kind) → length (t .left) ≡ length (t .kind) → length (t .right) ≡ length (t .kind)
-    → laid 0 (rows 0 e) (cleared t) ≡ left-by (read e) t
-laid-cleared e t l p q = cc (column (λ w. w .kind) (length (t .kind)) l, column (λ w. w .left) (length (t .left)) (omega arith), column (λ w. w .right) (length (t .right)) (omega arith))
+    → laid 0 (rows 0 e) (cleared t) ≡ left-by t (read e)
+laid-cleared e t l p q =
+    cc (
+      column (λ w. w .kind) (length (t .kind)) l,
+      column (λ w. w .left) (length (t .left)) (omega arith),
+      column (λ w. w .right) (length (t .right)) (omega arith),
+    )
   where
     column : (f : Row → ℕ) (n : ℕ) → entries e ≤ n → sets (zeros n) 0 (map f (rows 0 e)) ≡ filled n (map f (rows 0 e))
     column f n h = laid-zeros n (map f (rows 0 e)) (rw (length-map, rows-length) h)
@@ -148,14 +155,14 @@ module _ (text : Text) (t t₁ : Table) (c : t₁ ≡ cleared t) where
   due-differ h = differ (λ e. h (left-kept ∙ e .0 ∙ sym kind-kept, right-kept ∙ e .1 ∙ sym kind-kept))
 
   module _ (p : length (t₁ .left) ≡ length (t₁ .kind)) (q : length (t₁ .right) ≡ length (t₁ .kind)) where
-    pub due-long : 4096 < length text → Due text t (refused (refusal text-long 0))
+    pub due-long : longest-text < length text → Due text t (refused (refusal text-long 0))
     due-long l = long (sym left-kept ∙ p ∙ kind-kept) (sym right-kept ∙ q ∙ kind-kept) l
 
-    module _ (l : length text ≤ 4096) (room : ℕ) (m : room ≡ min 512 (length (t₁ .kind))) where
+    module _ (l : length text ≤ longest-text) (room : ℕ) (m : room ≡ min most-entries (length (t₁ .kind))) where
       due-short : {r : Reading} → scan room text ≡ r → Due text t r
       due-short {r} e =
           short (sym left-kept ∙ p ∙ kind-kept) (sym right-kept ∙ q ∙ kind-kept) l
-          (subst (λ (n : ℕ). Reads n text r) (m ∙ ap (min 512) kind-kept) (subst (Reads room text) e (scan-reads room text)))
+          (subst (λ (n : ℕ). Reads n text r) (m ∙ ap (min most-entries) kind-kept) (subst (Reads room text) e (scan-reads room text)))
 
       pub limited : (r : Found) (t′ : Table) → Whole-read room text t₁ r t′ → Limited text t r t′
       limited (Value made cursor) t′ h =

@@ -1,14 +1,15 @@
--- What the reader's rules owe each other: told by the scan of `theory`, which goes on from after what a rule found.
+-- What the reader's rules owe each other, told by the scan of `theory`: it goes on after what a rule found.
 use Prim.Native.Nat.{ℕ, _+_, _-_, _≤_, _<_}
 use mathlib.Core.Path.{_≡_}
 use mathlib.Core.Logic.{_⊎_}
-use mathlib.Core.List.{List, [], _∷_, map}
+use mathlib.Core.List.{List, [], _∷_}
 use mathlib.Core.Option.{Option, none, some}
 use lib.ListN.{length, drop, getD}
 use lib.Seq.{sets}
 use Rattle.theory.specs.Expression.{Expression, Sign, ε, letter, entries}
+use Rattle.theory.specs.Limit.{most-entries, most-open}
 use Rattle.theory.specs.Refusal.{refusal, not-grammar, too-many-entries}
-use Rattle.theory.specs.Table.{Table, table, Row, kind-of-sign}
+use Rattle.theory.specs.Table.{Table, table, columns, Row, kind-of-sign}
 use Rattle.theory.specs.Grammar.{Text, Reading, refused, rows, sign-byte, byte-0, byte-close, byte-*}
 use Rattle.theory.specs.Scan.{Token, opening, closing, starring, ∅-token, ε-token, other, signing, naming, Frame, Stand, before, after, scan-from}
 use Rattle.columns.specs.declared.Cursor.{Cursor}
@@ -22,11 +23,11 @@ use Rattle.reader.specs.declared.entries.Found.the-variants.{Value, Refu
 -- The columns with rows ws from row `base` on.
 abbrev pub laid : ℕ → List Row → Table → Table
 laid base ws t =
-    table (sets (t .kind) base (map (λ (w : Row). w .kind) ws)) (sets (t .left) base (map (λ (w : Row). w .left) ws)) (sets (t .right) base (map (λ (w : Row). w .right) ws))
+    let rows = columns ws in table (sets (t .kind) base (rows .kind)) (sets (t .left) base (rows .left)) (sets (t .right) base (rows .right))
 
 -- 01: "the smaller of 512 and the column length" is what every rule may fill.
 pub record Room (room : ℕ) (t : Table) : Type 0 where
-  pub small : room ≤ 512
+  pub small : room ≤ most-entries
   pub kind : room ≤ length (t .kind)
   pub left : room ≤ length (t .left)
   pub right : room ≤ length (t .right)
@@ -88,7 +89,7 @@ begins at t = start (at .depth) (at .cursor .at) (at .made) t
 -- Where a rule may begin. `0` is an expression only where nothing was read before it, and no rule reads it.
 pub record May-begin (room : ℕ) (text : Text) (s : Start) : Type 0 where
   pub room-left : Room room (s .columns)
-  pub shallow : s .depth ≤ 64
+  pub shallow : s .depth ≤ most-open
   pub within : s .at ≤ length text
   pub fits : s .made ≤ room
   pub no-∅ : s .depth ≡ 0 → getD text (s .at) 0 ≡ byte-0 → ⊥
@@ -97,7 +98,7 @@ pub record May-begin (room : ℕ) (text : Text) (s : Start) : Type 0 where
 pub record After (room : ℕ) (text : Text) (s : Start) (at made : ℕ) (t : Table) : Type 0 where
   pub expression : Expression
   pub reads : (fs : List Frame) → length fs ≡ s .depth → scan-at room text (s .at) (s .made) (before fs) ≡ scan-at room text at made (after expression fs)
-  pub shallow : s .depth ≤ 64
+  pub shallow : s .depth ≤ most-open
   pub onward : s .at < at
   pub within : at ≤ length text
   pub counted : made ≡ s .made + entries expression

@@ -10,6 +10,7 @@ use mathlib.Core.Option.{none, some}
 use lib.ListN.{length, drop, getD, drop-of-length-le}
 use lib.Seq.{drop-cons}
 use borrow.Author.Tests.{lt-ltb, le-ltb}
+use Rattle.theory.specs.Limit.{most-open}
 use Rattle.theory.specs.Expression.{Expression, Sign, union, concatenation, shuffle, star, binary}
 use Rattle.theory.specs.Refusal.{refusal, not-grammar, too-deep, too-many-entries}
 use Rattle.theory.specs.Grammar.{Text, refused, byte-open, byte-close, byte-*, sign-byte, makes-entry}
@@ -32,22 +33,24 @@ module _ (room : ℕ) (text : Text) (p k : ℕ) (c : Stand) where
     at-broken e = rw (from-here, scan-from, e)
 
     module _ (c′ : Stand) (e : next c (token (getD text p 0)) ≡ some c′) where
-      pub at-deep : 64 < open-at c′ → scan-from room p k c (drop p text) ≡ refused (refusal too-deep p)
+      pub at-deep : most-open < open-at c′ → scan-from room p k c (drop p text) ≡ refused (refusal too-deep p)
       unfolding scan-from
-      at-deep d = rw (from-here, scan-from, e, lt-ltb 64 (open-at c′) d)
+      at-deep d = rw (from-here, scan-from, e, lt-ltb most-open (open-at c′) d)
 
-      module _ (d : open-at c′ ≤ 64) where
+      module _ (d : open-at c′ ≤ most-open) where
         pub at-many : makes-entry (getD text p 0) ≡ true → room ≤ k → scan-from room p k c (drop p text) ≡ refused (refusal too-many-entries p)
         unfolding scan-from
-        at-many m f = rw (from-here, scan-from, e, le-ltb 64 (open-at c′) d, m, lt-ltb room (suc k) (omega arith))
+        at-many m f = rw (from-here, scan-from, e, le-ltb most-open (open-at c′) d, m, lt-ltb room (suc k) (omega arith))
 
-        pub at-entry : makes-entry (getD text p 0) ≡ true → k < room → scan-from room p k c (drop p text) ≡ scan-from room (p + 1) (k + 1) c′ (drop (p + 1) text)
+        pub at-entry : makes-entry (getD text p 0) ≡ true → k < room
+            → scan-from room p k c (drop p text) ≡ scan-from room (p + 1) (k + 1) c′ (drop (p + 1) text)
         unfolding scan-from
-        at-entry m f = rw (from-here, scan-from, e, le-ltb 64 (open-at c′) d, m, le-ltb room (suc k) (omega arith)) (rw (m, add-one p, add-one k))
+        at-entry m f =
+            rw (from-here, scan-from, e, le-ltb most-open (open-at c′) d, m, le-ltb room (suc k) (omega arith)) (rw (m, add-one p, add-one k))
 
         pub at-mark : makes-entry (getD text p 0) ≡ false → k ≤ room → scan-from room p k c (drop p text) ≡ scan-from room (p + 1) k c′ (drop (p + 1) text)
         unfolding scan-from
-        at-mark m f = rw (from-here, scan-from, e, le-ltb 64 (open-at c′) d, m, le-ltb room k f) (rw (m, add-one))
+        at-mark m f = rw (from-here, scan-from, e, le-ltb most-open (open-at c′) d, m, le-ltb room k f) (rw (m, add-one))
 
 -- ---- Before an expression
 

@@ -8,6 +8,7 @@ use mathlib.Core.List.{[], _∷_, _++_, append-nil}
 use mathlib.Core.Option.{some}
 use lib.ListN.{length, take, drop, getD}
 use lib.Seq.{append-snoc, split-at, take-suc, length-take-le, take-length}
+use Rattle.theory.specs.Limit.{most-open}
 use Rattle.theory.specs.Refusal.{refusal, not-grammar, too-deep, too-many-entries}
 use Rattle.theory.specs.Grammar.{Text, Viable, Whole, Reading, read, refused, depth, made, Passed, Reads, whole, broken, stopped, deep, many}
 use Rattle.theory.specs.Scan.{Stand, before, finish, scan-from, scan}
@@ -43,7 +44,7 @@ module _ (room : ℕ) (s : Text) (passed : Passed room s) where
   scan-broken : (b : ℕ) (t : Text) → ¬ (Viable (s ++ b ∷ [])) → scan room (s ++ b ∷ t) ≡ refused (refusal not-grammar (length s))
   scan-broken b t n = scan-after (b ∷ t) _ (λ c r. step-broken room s c r b t (not-viable-run (s ++ b ∷ []) n))
 
-  scan-deep : (b : ℕ) (t : Text) → Viable (s ++ b ∷ []) → 64 < depth (s ++ b ∷ []) → scan room (s ++ b ∷ t) ≡ refused (refusal too-deep (length s))
+  scan-deep : (b : ℕ) (t : Text) → Viable (s ++ b ∷ []) → most-open < depth (s ++ b ∷ []) → scan room (s ++ b ∷ t) ≡ refused (refusal too-deep (length s))
   scan-deep b t v d = let on = viable-run (s ++ b ∷ []) v in scan-after (b ∷ t) _ (λ c r. step-deep room s c r b t (on .0) (on .1) d)
 
   scan-many : (b : ℕ) (t : Text) → Viable (s ++ b ∷ []) → room < made (s ++ b ∷ [])
@@ -51,7 +52,7 @@ module _ (room : ℕ) (s : Text) (passed : Passed room s) where
   scan-many b t v m =
       let on = viable-run (s ++ b ∷ []) v in
       let deeper = entry-not-deeper s b (omega (arith, passed .fits)) in
-      let d : depth (s ++ b ∷ []) ≤ 64 = omega (arith, rw take-length at (passed .shallow (length s))) in
+      let d : depth (s ++ b ∷ []) ≤ most-open = omega (arith, rw take-length at (passed .shallow (length s))) in
       scan-after (b ∷ t) _ (λ c r. step-many room s c r b t (on .0) (on .1) d m)
 
 unfinished : (s : Text) (c : Stand) → run start s ≡ some c → ¬ (Whole s) → finish (length s) c ≡ refused (refusal not-grammar (length s))

@@ -10,6 +10,7 @@ use mathlib.Core.Option.{Option, none, some}
 use lib.ListN.{length, length-append}
 use lib.Dec.{ltb}
 use borrow.Author.Tests.{lt-ltb, le-ltb}
+use Rattle.theory.specs.Limit.{most-open}
 use Rattle.theory.specs.Expression.{∅}
 use Rattle.theory.specs.Refusal.{Refusal, refusal, not-grammar, too-deep, too-many-entries}
 use Rattle.theory.specs.Grammar.{Text, written, Whole, read, refused, makes-entry, depth, made}
@@ -55,19 +56,19 @@ module _ (room : ℕ) (s : Text) (c : Stand) (r : run start s ≡ some c) (b : �
     open-here : depth (s ++ b ∷ []) ≡ open-at c′
     open-here = depth-run (s ++ b ∷ []) c′ r′
 
-    pub step-deep : 64 < depth (s ++ b ∷ []) → scan-from room (length s) (made s) c (b ∷ t) ≡ refused (refusal too-deep (length s))
+    pub step-deep : most-open < depth (s ++ b ∷ []) → scan-from room (length s) (made s) c (b ∷ t) ≡ refused (refusal too-deep (length s))
     unfolding scan-from
-    step-deep d = rw (next-run r′, lt-ltb 64 (open-at c′) (rw open-here at d), scan-from)
+    step-deep d = rw (next-run r′, lt-ltb most-open (open-at c′) (rw open-here at d), scan-from)
 
-    not-deep : depth (s ++ b ∷ []) ≤ 64 → ltb 64 (open-at c′) ≡ false
-    not-deep d = le-ltb 64 (open-at c′) (rw open-here at d)
+    not-deep : depth (s ++ b ∷ []) ≤ most-open → ltb most-open (open-at c′) ≡ false
+    not-deep d = le-ltb most-open (open-at c′) (rw open-here at d)
 
-    pub step-many : depth (s ++ b ∷ []) ≤ 64 → room < made (s ++ b ∷ [])
+    pub step-many : depth (s ++ b ∷ []) ≤ most-open → room < made (s ++ b ∷ [])
         → scan-from room (length s) (made s) c (b ∷ t) ≡ refused (refusal too-many-entries (length s))
     unfolding scan-from
     step-many d m = rw (next-run r′, not-deep d, made-on, lt-ltb room (made (s ++ b ∷ [])) m, scan-from)
 
-    pub step-on : depth (s ++ b ∷ []) ≤ 64 → made (s ++ b ∷ []) ≤ room
+    pub step-on : depth (s ++ b ∷ []) ≤ most-open → made (s ++ b ∷ []) ≤ room
         → scan-from room (length s) (made s) c (b ∷ t) ≡ scan-from room (length (s ++ b ∷ [])) (made (s ++ b ∷ [])) c′ t
     unfolding scan-from
     step-on d m = rw (next-run r′, not-deep d, made-on, le-ltb room (made (s ++ b ∷ [])) m, scan-from) (rw (made-on, length-append, add-one))

@@ -72,7 +72,8 @@ expression-asked c κs =
 expression-read : tie.Need-returns-3
 expression-read c =
     let called = expression-home c .before .before .before in
-    let s = entered (other-byte (called .before) .before .before .before .before) in
+    let byte = other-byte (called .before) .before .before in
+    let s = entered (byte .before .before) in
     begun-expression (s .args .at .room) (s .args .text .now) (lent s) (s .args .at) (s .pre .1) (called .expression .result)
     (left-by-call (called .expression .last .1 .1)) (called .expression .ensures .0) (called .expression .ensures .1)
 

@@ -13,4 +13,7 @@ abbrev μ-loop : tie.MeasureT-loop
 μ-loop text₀ start end byte i₀ text i = end - i
 
 pub fill-spec : {M : Type 1} → statement M
-fill-spec = tie.close (tie.spec Inv-loop μ-loop (λ c. search needs) (λ c κs. search needs) (λ c. search needs) (λ c. search needs) (λ c. search needs) (λ c. search needs) (λ c. search needs))
+fill-spec =
+    tie.close
+    (tie.spec Inv-loop μ-loop (λ c. search needs) (λ c κs. search needs) (λ c. search needs) (λ c. search needs) (λ c. search needs)
+    (λ c. search needs) (λ c. search needs))
