@@ -8,9 +8,10 @@ use mathlib.Core.Logic.{inl, inr}
 use mathlib.Core.List.{List, [], _∷_}
 use mathlib.Core.Option.{Option, none, some}
 use lib.ListN.{length, getD}
+use Rattle.theory.specs.Kind
 use Rattle.theory.specs.Expression.{Expression, star, entries}
 use Rattle.theory.specs.Refusal.{refusal, not-grammar}
-use Rattle.theory.specs.Table.{Table, Row}
+use Rattle.theory.specs.Table.{Table, Row, entry}
 use Rattle.theory.specs.Grammar.{Text, refused, rows, byte-open, byte-*, makes-entry}
 use Rattle.theory.specs.Scan.{token, Stand, before, after, next, open-at, finish}
 use Rattle.theory.proofs.Scan.{at-end, at-broken, at-many, at-entry, after-star}
@@ -25,7 +26,7 @@ use Rattle.reader.proofs.Stepped.{Stepped, byte-before}
 
 -- The row of a star over the last row made.
 abbrev pub star-row : ℕ → Row
-star-row made = record { kind = 6; left = made - 1; right = 0 }
+star-row made = entry Kind.star (made - 1) 0
 
 module _ (room : ℕ) (text : Text) where
   -- ---- The text's end, and a leaf
@@ -85,7 +86,7 @@ module _ (room : ℕ) (text : Text) where
   unfolding rows
   star-laid base x t =
       let last : base + entries x - 1 ≡ base + pred (entries x) = omega (arith, entries-positive x) in
-      sym (laid-append base (rows base x) (record { kind = 6; left = base + pred (entries x); right = 0 } ∷ []) t ∙ rw (rows-length, last))
+      sym (laid-append base (rows base x) (entry Kind.star (base + pred (entries x)) 0 ∷ []) t ∙ rw (rows-length, last))
 
   pub star-answers : (s : Start) (at made : ℕ) (t : Table) → After room text s at made t → (byte : ℕ) (cursor : Cursor)
       → Stepped text at byte cursor → byte ≡ byte-* → (r : Found) (t′ : Table)

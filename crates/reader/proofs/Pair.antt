@@ -9,10 +9,11 @@ use mathlib.Core.Bool.{false}
 use mathlib.Core.List.{List, [], _∷_, _++_}
 use lib.ListN.{length, getD, length-append}
 use lib.Dec.{lit≤}
+use Rattle.theory.specs.Kind
 use Rattle.theory.specs.Expression.{Expression, Sign, union, concatenation, shuffle, binary, entries}
 use Rattle.theory.specs.Limit.{most-open}
 use Rattle.theory.specs.Refusal.{refusal, not-grammar, too-deep, too-many-entries}
-use Rattle.theory.specs.Table.{Table, Row, kind-of-sign}
+use Rattle.theory.specs.Table.{Table, Row, entry, kind-of-sign}
 use Rattle.theory.specs.Grammar.{Text, refused, rows, sign-byte, byte-open, byte-close, byte-*, makes-entry}
 use Rattle.theory.specs.Scan.{Frame, opened, signed, Stand, before, after, open-at, finish}
 use Rattle.theory.proofs.Scan.{at-deep, at-many, at-entry, at-mark, before-opening, after-sign, after-close, after-unsigned, after-unclosed}
@@ -157,11 +158,11 @@ module _ {room : ℕ} {text : Text} {s : Start} {at made : ℕ} {t : Table} (x :
         };
       }
 
-pub signed-kind : {room : ℕ} {text : Text} {s : Start} {kind at made : ℕ} {t : Table} → Signed room text s kind at made t → kind ≤ 5
+pub signed-kind : {room : ℕ} {text : Text} {s : Start} {kind at made : ℕ} {t : Table} → Signed room text s kind at made t → kind ≤ Kind.last
 unfolding kind-of-sign
 signed-kind x = rw (x .kind-is) (small (x .sign))
   where
-    small : (g : Sign) → kind-of-sign g ≤ 5
+    small : (g : Sign) → kind-of-sign g ≤ Kind.last
     small union = lit≤ tt
     small concatenation = lit≤ tt
     small shuffle = lit≤ tt
@@ -170,7 +171,7 @@ signed-kind x = rw (x .kind-is) (small (x .sign))
 
 -- The row of a sign over the last rows of its two parts.
 abbrev pub pair-row : (kind first second : ℕ) → Row
-pair-row kind first second = record { kind = kind; left = first - 1; right = second - 1 }
+pair-row kind first second = entry kind (first - 1) (second - 1)
 
 pair-laid : (base : ℕ) (g : Sign) (x y : Expression) (t : Table)
     → laid (base + entries x + entries y) (pair-row (kind-of-sign g) (base + entries x) (base + entries x + entries y) ∷ [])
@@ -180,7 +181,7 @@ unfolding rows
 pair-laid base g x y t =
     let lefts : base + entries x - 1 ≡ base + pred (entries x) = omega (arith, entries-positive x) in
     let rights : base + entries x + entries y - 1 ≡ base + entries x + pred (entries y) = omega (arith, entries-positive y) in
-    let w : Row = record { kind = kind-of-sign g; left = base + pred (entries x); right = base + entries x + pred (entries y) } in
+    let w = entry (kind-of-sign g) (base + pred (entries x)) (base + entries x + pred (entries y)) in
     let xy = rows base x ++ rows (base + entries x) y in
     sym (laid-append base xy (w ∷ []) t
     ∙ ap (laid (base + length xy) (w ∷ [])) (laid-append base (rows base x) (rows (base + entries x) y) t)

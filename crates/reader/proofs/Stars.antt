@@ -4,6 +4,7 @@ use native.Mathlib.Omega.{arith}
 use mathlib.Core.Path.{_≡_, ap, _∙_}
 use mathlib.Core.List.{[], _∷_}
 use lib.ListN.{length, length-set}
+use Rattle.theory.specs.Kind
 use Rattle.theory.specs.Table.{Table}
 use Rattle.theory.specs.Grammar.{Text, byte-*}
 use Rattle.columns.specs.declared.Cursor.{Cursor}
@@ -35,7 +36,7 @@ module _ {room : ℕ} {text : Text} {at₀ made₀ : ℕ} {t₀ : Table} {at mad
         onward = starred-answers (Value made′ cursor′) t′ i;
         positive = omega (arith, i .1);
         fits = omega (arith, i .0, i .1);
-        kind = ap (λ (u : Table). length (u .kind)) (i .3) ∙ length-set (t .kind) made 6 ∙ x .kind;
+        kind = ap (λ (u : Table). length (u .kind)) (i .3) ∙ length-set (t .kind) made Kind.star ∙ x .kind;
         left = ap (λ (u : Table). length (u .left)) (i .3) ∙ length-set (t .left) made (made - 1) ∙ x .left;
         right = ap (λ (u : Table). length (u .right)) (i .3) ∙ length-set (t .right) made 0 ∙ x .right;
       }

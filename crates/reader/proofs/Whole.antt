@@ -11,11 +11,12 @@ use lib.ListN.{length, getD, length-map, length-replicate}
 use lib.Seq.{sets}
 use lib.Dec.{eqb}
 use borrow.Author.Tests.{eqb-true, eq-eqb}
+use Rattle.theory.specs.Kind
 use Rattle.theory.specs.Expression.{Expression, ∅, entries}
 use Rattle.theory.specs.Limit.{most-entries, longest-text}
 use Rattle.theory.specs.Refusal.{refusal, not-grammar, columns-differ, text-long}
 use Rattle.theory.specs.Column.{zeros, filled}
-use Rattle.theory.specs.Table.{Table, Row}
+use Rattle.theory.specs.Table.{Table, Row, entry}
 use Rattle.theory.specs.Grammar.{Text, Reading, read, refused, Reads, rows, byte-0, makes-entry}
 use Rattle.theory.specs.Scan.{token, before, after, ended, next, open-at, finish, scan}
 use Rattle.theory.specs.Read.{Due, differ, long, short, left-by, Read}
@@ -41,7 +42,7 @@ begun-empty room text at z l = at-end room text 0 0 (before []) (subst (λ (p : 
 
 -- The row of `0`.
 abbrev empty-row : Row
-empty-row = record { kind = 0; left = 0; right = 0 }
+empty-row = entry Kind.empty-language 0 0
 
 ∅-next : (b : ℕ) → b ≡ byte-0 → next (before []) (token b) ≡ some ended
 unfolding next token

@@ -6,10 +6,11 @@ use mathlib.Core.Bool.{Bool, cond, not, _&&_, _||_}
 use mathlib.Core.List.{List, [], _∷_, _++_}
 use lib.ListN.{length, take}
 use lib.Dec.{T, eqb, leb}
+use Rattle.theory.specs.Kind
 use Rattle.theory.specs.Expression.{Expression, Sign, ∅, ε, letter, binary, star, union, concatenation, shuffle, entries}
 use Rattle.theory.specs.Limit.{most-open}
 use Rattle.theory.specs.Refusal.{Refusal, refusal, not-grammar, too-deep, too-many-entries}
-use Rattle.theory.specs.Table.{Row, kind-of-sign, times}
+use Rattle.theory.specs.Table.{Row, entry, kind-of-sign, times}
 
 abbrev pub Text : Type 0
 Text = List ℕ
@@ -142,10 +143,10 @@ pub data Reads (room : ℕ) (t : Text) : Reading → Type 0 where
 -- Rows as they are made, the first of them with number `base`: an expression's last row is its own.
 unfoldable pub rows : ℕ → Expression → List Row
 unfolding entries kind-of-sign
-rows base ∅ = record { kind = 0; left = 0; right = 0 } ∷ []
-rows base ε = record { kind = 1; left = 0; right = 0 } ∷ []
-rows base (letter a) = record { kind = 2; left = a; right = 0 } ∷ []
+rows base ∅ = entry Kind.empty-language 0 0 ∷ []
+rows base ε = entry Kind.empty-word 0 0 ∷ []
+rows base (letter a) = entry Kind.letter a 0 ∷ []
 rows base (binary s x y) =
     rows base x ++ rows (base + entries x) y
-    ++ (record { kind = kind-of-sign s; left = base + pred (entries x); right = base + entries x + pred (entries y) } ∷ [])
-rows base (star x) = rows base x ++ (record { kind = 6; left = base + pred (entries x); right = 0 } ∷ [])
+    ++ (entry (kind-of-sign s) (base + pred (entries x)) (base + entries x + pred (entries y)) ∷ [])
+rows base (star x) = rows base x ++ (entry Kind.star (base + pred (entries x)) 0 ∷ [])

@@ -1,5 +1,6 @@
 pub mod Refusal
 pub mod Limit
+pub mod Kind
 pub mod Column
 pub mod Expression
 pub mod Distinct
