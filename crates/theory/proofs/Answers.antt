@@ -1,5 +1,4 @@
--- The answers of `build` and `judge` where the call is refused, and where it is not. Assumes nothing.
-use Prim.Native.Nat.{ℕ}
+-- The answers of `build` and `judge` where the call is refused, and where it is not.
 use mathlib.Core.Path.{_≡_}
 use lib.ListN.{length}
 use borrow.Author.Tests.{eq-eqb, ne-eqb}
@@ -8,7 +7,7 @@ use Rattle.theory.specs.Language.{Word}
 use Rattle.theory.specs.Table.{Table, tree}
 use Rattle.theory.specs.Automaton.{states, expressions, arcs}
 use Rattle.theory.specs.Build.{Lent, counts, build-refusal}
-use Rattle.theory.specs.Record.{Handed, verdict, live, matcher-refusal}
+use Rattle.theory.specs.Record.{Handed, Work, verdict, live, matcher-refusal}
 use Rattle.theory.specs.Judge.{judgement, given, withheld}
 
 module _ (g : Table) (c : Lent) where
@@ -22,11 +21,11 @@ module _ (g : Table) (c : Lent) where
   unfolding counts
   counts-refused n = rw (counts, ne-eqb ((build-refusal g c) .number) 0 n)
 
-module _ (h : Handed) (now next : ℕ) (w : Word) where
-  pub judgement-given : (matcher-refusal h now next) .number ≡ 0 → judgement h now next w ≡ given (verdict h w) (live h w)
+module _ (h : Handed) (k : Work) (w : Word) where
+  pub judgement-given : (matcher-refusal h k) .number ≡ 0 → judgement h k w ≡ given (verdict h w) (live h w)
   unfolding judgement
-  judgement-given z = rw (judgement, eq-eqb ((matcher-refusal h now next) .number) 0 z)
+  judgement-given z = rw (judgement, eq-eqb ((matcher-refusal h k) .number) 0 z)
 
-  pub judgement-refused : ((matcher-refusal h now next) .number ≡ 0 → ⊥) → judgement h now next w ≡ withheld (matcher-refusal h now next)
+  pub judgement-refused : ((matcher-refusal h k) .number ≡ 0 → ⊥) → judgement h k w ≡ withheld (matcher-refusal h k)
   unfolding judgement
-  judgement-refused n = rw (judgement, ne-eqb ((matcher-refusal h now next) .number) 0 n)
+  judgement-refused n = rw (judgement, ne-eqb ((matcher-refusal h k) .number) 0 n)

@@ -1,13 +1,15 @@
--- Laws of the tests and counts over the numbers below n. Assumes nothing.
+-- Laws of the tests and counts over the numbers below n: what each means, in parts, and one number more.
 use Prim.Native.Nat.{ℕ, zero, suc, _+_, _≤_, _<_}
-use native.Mathlib.Nat.{le-refl, le-of-suc-le-suc, not-suc-le-zero, add-suc, add-zero, eq-or-lt-of-le, le-step}
-use native.Mathlib.Decide.{le-ind}
+use native.Mathlib.Nat.{le-refl, le-of-eq, le-antisymm, le-of-suc-le-suc, not-suc-le-zero, add-suc, add-zero, eq-or-lt-of-le, le-step}
+use native.Mathlib.Decide.{le-ind, ℕ-discrete}
 use native.Mathlib.Numerals.{add-one}
 use native.Mathlib.Omega.{arith}
 use mathlib.Core.Path.{_≡_, refl, sym, ap, ap₂, _∙_, subst}
-use mathlib.Core.Logic.{_⊎_, inl, inr}
+use mathlib.Core.Logic.{_⊎_, inl, inr, ⊎-elim, _↔_, Iff·trans}
 use mathlib.Core.Bool.{Bool, true, false, cond, _||_, _&&_, or-assoc, or-false, false≢true}
-use Rattle.theory.specs.Record.{some-below, all-below, count-below}
+use mathlib.Core.List.{[], _∷_, List·Memᴰ·head, List·Memᴰ·tail, List·Memᴰ·not-nil, List·Memᴰ·cases-cons}
+use Rattle.theory.specs.Below.{some-below, all-below, count-below, HowMany}
+use Rattle.theory.proofs.Distinct.{no-longer}
 
 -- ---- Only the numbers below n count
 
@@ -57,6 +59,21 @@ all-at (suc n) p k e l = go (all-below n p) (λ h m. all-at n p k h m) e (eq-or-
     go true ih h (inl i) = subst (λ (m : ℕ). p m ≡ true) (sym i) h
     go true ih h (inr m) = ih refl m
     go false ih h d = absurd (false≢true h)
+
+pub all-each : (n : ℕ) (p : ℕ → Bool) → ((k : ℕ) → k < n → p k ≡ true) → all-below n p ≡ true
+unfolding all-below
+all-each zero p h = refl
+all-each (suc n) p h = ap₂ _&&_ (all-each n p (λ k l. h k (omega arith))) (h n (le-refl (suc n)))
+
+pub all-false : (n : ℕ) (p : ℕ → Bool) → all-below n p ≡ false → (k : ℕ) × (k < n) × (p k ≡ false)
+unfolding all-below
+all-false zero p e = absurd (false≢true (sym e))
+all-false (suc n) p e = go (all-below n p) refl e (all-false n p)
+  where
+    go : (b : Bool) → all-below n p ≡ b → (b && p n) ≡ false → (all-below n p ≡ false → (k : ℕ) × (k < n) × (p k ≡ false))
+        → (k : ℕ) × (k < suc n) × (p k ≡ false)
+    go true q h ih = (n, le-refl (suc n), h)
+    go false q h ih = let (k, l, f) = ih q in (k, le-step l, f)
 
 pub some-none : (n : ℕ) (p : ℕ → Bool) → ((k : ℕ) → k < n → p k ≡ false) → some-below n p ≡ false
 unfolding some-below
@@ -108,15 +125,14 @@ some-front (suc n) p = ap (λ (b : Bool). b || p (suc n)) (some-front n p) ∙ o
 pub count-front : (n : ℕ) (p : ℕ → Bool) → count-below (suc n) p ≡ cond (p 0) (suc (count-below n (λ j. p (suc j)))) (count-below n (λ j. p (suc j)))
 unfolding count-below
 count-front zero p = refl
-count-front (suc n) p = go (p (suc n)) (p 0) (count-front n p)
+count-front (suc n) p = go (p (suc n)) (p 0) (count-below n (λ j. p (suc j))) (count-front n p)
   where
-    go : (b d : Bool) → count-below (suc n) p ≡ cond d (suc (count-below n (λ j. p (suc j)))) (count-below n (λ j. p (suc j)))
-        → cond b (suc (count-below (suc n) p)) (count-below (suc n) p)
-        ≡ cond d (suc (cond b (suc (count-below n (λ j. p (suc j)))) (count-below n (λ j. p (suc j))))) (cond b (suc (count-below n (λ j. p (suc j)))) (count-below n (λ j. p (suc j))))
-    go true true e = ap suc e
-    go true false e = ap suc e
-    go false true e = e
-    go false false e = e
+    go : (b d : Bool) (rest : ℕ) → count-below (suc n) p ≡ cond d (suc rest) rest
+        → cond b (suc (count-below (suc n) p)) (count-below (suc n) p) ≡ cond d (suc (cond b (suc rest) rest)) (cond b (suc rest) rest)
+    go true true rest e = ap suc e
+    go true false rest e = ap suc e
+    go false true rest e = e
+    go false false rest e = e
 
 -- ---- One more, as a loop counts
 
@@ -127,3 +143,48 @@ some-more n p = rw add-one
 pub all-more : (n : ℕ) (p : ℕ → Bool) → all-below (n + 1) p ≡ (all-below n p && p n)
 unfolding all-below
 all-more n p = rw add-one
+
+-- ---- How many
+
+pub how-many-once : {P : ℕ → Type 0} {m n : ℕ} → HowMany P m → HowMany P n → m ≡ n
+how-many-once h k =
+    h .many
+    ∙ le-antisymm (no-longer ℕ-discrete (h .those) (k .those) (h .once) (λ t m. k .exactly t .1 (h .exactly t .0 m)))
+    (no-longer ℕ-discrete (k .those) (h .those) (k .once) (λ t m. h .exactly t .1 (k .exactly t .0 m)))
+    ∙ sym (k .many)
+
+pub how-many-cong : {P Q : ℕ → Type 0} {n : ℕ} → ((t : ℕ) → P t ↔ Q t) → HowMany P n → HowMany Q n
+how-many-cong e h = record { those = h .those; once = h .once; exactly = λ t. Iff·trans (h .exactly t) (e t); many = h .many }
+
+-- A count is how many numbers below n pass the test.
+pub count-how-many : (n : ℕ) (p : ℕ → Bool) → HowMany (λ t. (t < n) × (p t ≡ true)) (count-below n p)
+unfolding count-below
+count-how-many zero p = record {
+  those = [];
+  once = tt;
+  exactly = λ t. (λ m. absurd (List·Memᴰ·not-nil m), λ (l, _). absurd (not-suc-le-zero l));
+  many = refl;
+}
+count-how-many (suc n) p = go (p n) refl (count-how-many n p)
+  where
+    go : (b : Bool) → p n ≡ b → HowMany (λ t. (t < n) × (p t ≡ true)) (count-below n p)
+        → HowMany (λ t. (t < suc n) × (p t ≡ true)) (cond b (suc (count-below n p)) (count-below n p))
+    go true q h = record {
+      those = n ∷ h .those;
+      once = (λ m. let (l, _) = h .exactly n .0 m in omega arith, h .once);
+      exactly = λ t. (
+        λ m. ⊎-elim (λ e. (le-of-eq (ap suc e), ap p e ∙ q)) (λ k. let (l, r) = h .exactly t .0 k in (le-step l, r)) (List·Memᴰ·cases-cons m),
+        λ (l, r). ⊎-elim (λ e. List·Memᴰ·head e) (λ k. List·Memᴰ·tail (h .exactly t .1 (k, r))) (eq-or-lt-of-le (le-of-suc-le-suc l)),
+      );
+      many = ap suc (h .many);
+    }
+    go false q h = record {
+      those = h .those;
+      once = h .once;
+      exactly = λ t. (
+        λ m. let (l, r) = h .exactly t .0 m in (le-step l, r),
+        λ (l, r).
+            ⊎-elim (λ e. absurd (false≢true (sym q ∙ ap p (sym e) ∙ r))) (λ k. h .exactly t .1 (k, r)) (eq-or-lt-of-le (le-of-suc-le-suc l)),
+      );
+      many = h .many;
+    }

@@ -1,4 +1,5 @@
 pub mod Below
+pub mod Arcs
 pub mod Reached
 pub mod Distinct
 pub mod Members
@@ -27,8 +28,10 @@ pub mod FirstFound
 pub mod Due
 pub mod Expressed
 pub mod Answers
-pub mod Room
+pub mod BuilderRefusal
+pub mod Column
 pub mod Filled
 pub mod Needs
 pub mod Accepts
+pub mod MatcherRefusal
 pub mod Verdicts

@@ -1,6 +1,6 @@
--- The automaton as the list of all that is met, in 01's order: states in number order, letters in ascending order for each, members in
--- list order. What stands of it after a part of that list begins what stands at the end. Leans on `States`. Assumes nothing.
-use Prim.Native.Nat.{ℕ, zero, suc, _+_, _-_, _≤_, _<_}
+-- States and arcs are those of all that is met, in 01's order, and what stands after a part of it begins what stands at the end. Leans on
+-- `States`.
+use Prim.Native.Nat.{ℕ, zero, suc, _+_, _≤_, _<_}
 use native.Mathlib.Nat.{add-suc, add-zero, zero-add, suc-add}
 use native.Mathlib.Numerals.{one-add}
 use native.Mathlib.Decide.{le-ind}
@@ -10,52 +10,16 @@ use mathlib.Core.List.{List, [], _∷_, _++_, map, flatMap, append-assoc, append
 use lib.ListN.{length, getD, take}
 use lib.Seq.{take-suc, length-take-le}
 use Rattle.theory.specs.Expression.{Expression, ∅, same}
-use Rattle.theory.specs.Distinct.{distinct, beyond, place, NoRepeats}
+use Rattle.theory.specs.Distinct.{distinct, beyond}
 use Rattle.theory.specs.Derivative.{derivative}
-use Rattle.theory.proofs.Distinct.{distinct-append, distinct-known, distinct-new, distinct-of, to-distinct, distinct-no-repeats}
+use Rattle.theory.proofs.Distinct.{distinct-append, distinct-known, distinct-new, distinct-of, to-distinct}
 use Rattle.theory.proofs.Members.{map-same, flatMap-append}
 use Rattle.theory.proofs.States.{Begins, states-complete}
-use Rattle.theory.specs.Automaton.{ascending, alphabet, successors, met, states, Arc, arc, leaving, leaving-all, arcs}
-
--- A member met: from the state of that number, by the letter, that expression.
-pub record Meeting : Type 0 where
-  pub from : ℕ
-  pub letter : ℕ
-  pub target : Expression
-
-abbrev pub meeting : ℕ → ℕ → Expression → Meeting
-meeting i a m = record { from = i; letter = a; target = m }
-
--- What is met from state i, the expression x, by some letters.
-unfoldable pub by-letters : ℕ → Expression → List ℕ → List Meeting
-unfolding flatMap
-by-letters i x ls = flatMap (λ a. map (meeting i a) (derivative a x)) ls
-
--- What is met from the states xs, numbered from i.
-unfoldable pub by-states : ℕ → List Expression → List Meeting
-by-states i [] = []
-by-states i (x ∷ xs) = by-letters i x alphabet ++ by-states (suc i) xs
-
--- All that is met before state i is left by a letter above a.
-unfoldable pub before : Expression → ℕ → ℕ → List Meeting
-before e i a = by-states 0 (take i (states e)) ++ by-letters i (getD (states e) i ∅) (ascending 1 a)
-
--- All that is met.
-abbrev pub meetings : Expression → List Meeting
-meetings e = by-states 0 (states e)
-
-abbrev pub targets : List Meeting → List Expression
-targets ms = map (λ (m : Meeting). m .target) ms
-
--- The states so far: 01, "a new expression gets the next state number".
-unfoldable pub so-far : Expression → List Meeting → List Expression
-so-far e done = distinct same (e ∷ targets done)
+use Rattle.theory.specs.Automaton.{ascending, alphabet, successors, met, states, leaving, leaving-all, arcs}
+use Rattle.theory.specs.Limit.{last-letter}
+use Rattle.theory.specs.Meetings.{Meeting, meeting, by-letters, by-states, before, meetings, targets, so-far, to-arc}
 
 -- ---- Arcs and states from what is met
-
--- A meeting as an arc among the states s.
-abbrev pub to-arc : List Expression → Meeting → Arc
-to-arc s m = arc (m .from) (m .letter) (place same (m .target) s)
 
 map-flatMap : {A B C : Type 0} (g : B → C) (f : A → List B) (xs : List A) → map g (flatMap f xs) ≡ flatMap (λ x. map g (f x)) xs
 unfolding flatMap
@@ -106,10 +70,6 @@ states-met e = so-far-met e (states e) ∙ states-complete e
 
 -- ---- A part of what is met
 
-pub so-far-once : (e : Expression) (done : List Meeting) → NoRepeats (so-far e done)
-unfolding so-far
-so-far-once e done = distinct-no-repeats same (e ∷ targets done)
-
 -- What stands so far begins what stands later.
 pub so-far-begins : (e : Expression) (done rest : List Meeting) → Begins (so-far e done) (so-far e (done ++ rest))
 unfolding so-far
@@ -141,7 +101,8 @@ pub ascending-more : (first n : ℕ) → ascending first (suc n) ≡ ascending f
 unfolding ascending
 ascending-more first zero = ap (λ (k : ℕ). k ∷ []) (sym (add-zero first))
 ascending-more first (suc n) =
-    ap {B = List ℕ} (λ (t : List ℕ). first ∷ t) (ascending-more (suc first) n ∙ ap (λ (k : ℕ). ascending (suc first) n ++ (k ∷ [])) (suc-add first n ∙ sym (add-suc first n)))
+    ap {B = List ℕ} (λ (t : List ℕ). first ∷ t)
+    (ascending-more (suc first) n ∙ ap (λ (k : ℕ). ascending (suc first) n ++ (k ∷ [])) (suc-add first n ∙ sym (add-suc first n)))
 
 pub ascending-split : (first m n : ℕ) → ascending first (m + n) ≡ ascending first m ++ ascending (first + m) n
 unfolding ascending
@@ -169,20 +130,23 @@ pub before-letter : (e : Expression) (i a : ℕ)
 unfolding before by-letters flatMap
 before-letter e i a =
     let x = getD (states e) i ∅ in
-    ap (λ ls. by-states 0 (take i (states e)) ++ by-letters i x ls) (ascending-more 1 a ∙ ap (λ (k : ℕ). ascending 1 a ++ (k ∷ [])) (one-add a))
-    ∙ ap (λ ms. by-states 0 (take i (states e)) ++ ms)
-    (by-letters-append i x (ascending 1 a) (suc a ∷ []) ∙ ap (λ ms. by-letters i x (ascending 1 a) ++ ms) (append-nil (map (meeting i (suc a)) (derivative (suc a) x))))
-    ∙ sym (append-assoc (by-states 0 (take i (states e))) (by-letters i x (ascending 1 a)) (map (meeting i (suc a)) (derivative (suc a) x)))
+    let earlier = by-states 0 (take i (states e)) in
+    let more = map (meeting i (suc a)) (derivative (suc a) x) in
+    ap (λ ls. earlier ++ by-letters i x ls) (ascending-more 1 a ∙ ap (λ (k : ℕ). ascending 1 a ++ (k ∷ [])) (one-add a))
+    ∙ ap (λ ms. earlier ++ ms) (by-letters-append i x (ascending 1 a) (suc a ∷ []) ∙ ap (λ ms. by-letters i x (ascending 1 a) ++ ms) (append-nil more))
+    ∙ sym (append-assoc earlier (by-letters i x (ascending 1 a)) more)
 
 -- Letters by which nothing is met may be left out.
 pub before-skip : (e : Expression) (i a b : ℕ) → a ≤ b → ((k : ℕ) → a < k → k ≤ b → derivative k (getD (states e) i ∅) ≡ []) → before e i b ≡ before e i a
 before-skip e i a b l h =
     le-ind (λ (c : ℕ). ((k : ℕ) → a < k → k ≤ c → derivative k (getD (states e) i ∅) ≡ []) → before e i c ≡ before e i a) (λ _. refl)
-    (λ c ac ih none. before-letter e i c ∙ ap (λ ms. before e i c ++ map (meeting i (suc c)) ms) (none (suc c) (omega arith) (omega arith)) ∙ append-nil (before e i c) ∙ ih (λ k ak kc. none k ak (omega arith)))
+    (λ c ac ih none.
+    before-letter e i c ∙ ap (λ ms. before e i c ++ map (meeting i (suc c)) ms) (none (suc c) (omega arith) (omega arith)) ∙ append-nil (before e i c)
+    ∙ ih (λ k ak kc. none k ak (omega arith)))
     b l h
 
 -- The next state.
-pub before-state : (e : Expression) (i : ℕ) → i < length (states e) → before e i 255 ≡ before e (suc i) 0
+pub before-state : (e : Expression) (i : ℕ) → i < length (states e) → before e i last-letter ≡ before e (suc i) 0
 unfolding before by-states by-letters flatMap alphabet ascending
 before-state e i l =
     sym (append-nil (by-states 0 (take (suc i) (states e)))

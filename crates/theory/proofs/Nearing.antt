@@ -1,28 +1,25 @@
 -- What a builder that goes through the meetings in 01's order may conclude on the way and at the end: numbers already given stay, needs
--- only grow, and where every state was left nothing is missing. Leans on `Meetings` and `States`. Assumes nothing.
+-- only grow, and where every state was left nothing is missing. Leans on `Meetings` and `States`.
 use Prim.Native.Nat.{ℕ, suc, _+_, _-_, _≤_, _<_}
 use native.Mathlib.Nat.{le-trans, lt-of-lt-of-le, le-of-eq, le-add-right, zero-add}
 use native.Mathlib.Omega.{arith}
 use mathlib.Core.Path.{_≡_, refl, sym, ap, _∙_, subst}
-use mathlib.Core.Logic.{_⊎_}
-use mathlib.Core.List.{List, [], _∷_, _++_, map, flatMap, append-assoc, append-nil, map-append, List·Memᴰ, List·Memᴰ·head, List·Memᴰ·tail, Memᴰ·append-left}
+use mathlib.Core.List.{List, [], _∷_, _++_, map, flatMap, append-assoc, append-nil, map-append, List·Memᴰ, List·Memᴰ·head, Memᴰ·append-left}
 use lib.ListN.{length, getD, take, drop, length-map, length-append, List·getD-append}
 use lib.Seq.{take-append-seam, split-at, length-take-le}
 use Rattle.theory.specs.Expression.{Expression, ∅, ε, same, parts, letters}
 use Rattle.theory.specs.Distinct.{place, Within}
 use Rattle.theory.specs.Derivative.{derivative}
 use Rattle.theory.specs.Automaton.{ascending, alphabet, met, states, arcs, expressions}
-use Rattle.theory.proofs.Distinct.{to-distinct, place-of, getD-member}
-use Rattle.theory.proofs.Members.{to-flatMap}
+use Rattle.theory.specs.Needs.{empty, part}
+use Rattle.theory.proofs.Distinct.{place-of}
 use Rattle.theory.proofs.States.{Begins, states-no-repeats, states-only, states-derived}
+use Rattle.theory.proofs.Needs.{counted}
 use Rattle.theory.proofs.Bounds.{states-support}
 use Rattle.theory.proofs.Bounds.Letters.{derivative-letter, support-letters}
-use Rattle.theory.proofs.Meetings.{Meeting, meeting, by-letters, by-states, before, meetings, to-arc, so-far, so-far-begins, states-met, arcs-met, so-far-met, before-letter, ascending-split, by-letters-append, by-states-append}
-
--- `done` is where the meetings of e begin.
-pub record Starts (e : Expression) (done : List Meeting) : Type 0 where
-  pub rest : List Meeting
-  pub goes-on : meetings e ≡ done ++ rest
+use Rattle.theory.specs.Meetings.{Meeting, meeting, by-letters, by-states, before, meetings, Starts, to-arc, so-far}
+use Rattle.theory.specs.Limit.{last-letter}
+use Rattle.theory.proofs.Meetings.{so-far-begins, states-met, arcs-met, so-far-met, before-letter, ascending-split, by-letters-append, by-states-append}
 
 module _ {e : Expression} {done : List Meeting} (s : Starts e done) where
   -- The states so far are the first states.
@@ -50,16 +47,16 @@ arcs-more done m s = let l = arcs-enough s in omega (arith, length-append done (
 
 -- ---- Where the meetings begin
 
-letters-split : (a : ℕ) → a ≤ 255 → alphabet ≡ ascending 1 a ++ ascending (1 + a) (255 - a)
+letters-split : (a : ℕ) → a ≤ last-letter → alphabet ≡ ascending 1 a ++ ascending (1 + a) (last-letter - a)
 unfolding alphabet
-letters-split a h = let q : 255 ≡ a + (255 - a) = omega arith in ap (ascending 1) q ∙ ascending-split 1 a (255 - a)
+letters-split a h = let q : last-letter ≡ a + (last-letter - a) = omega arith in ap (ascending 1) q ∙ ascending-split 1 a (last-letter - a)
 
-pub starts-before : (e : Expression) (i a : ℕ) → i < length (states e) → a ≤ 255 → Starts e (before e i a)
+pub starts-before : (e : Expression) (i a : ℕ) → i < length (states e) → a ≤ last-letter → Starts e (before e i a)
 unfolding before by-states
 starts-before e i a l h =
     let x = getD (states e) i ∅ in
     let later = drop (suc i) (states e) in
-    let more = by-letters i x (ascending (1 + a) (255 - a)) ++ by-states (suc i) later in
+    let more = by-letters i x (ascending (1 + a) (last-letter - a)) ++ by-states (suc i) later in
     record {
       rest = more;
       goes-on =
@@ -68,13 +65,13 @@ starts-before e i a l h =
           ∙ ap (λ ms. by-states 0 (take i (states e)) ++ ms)
           (ap (λ (k : ℕ). by-states k (x ∷ later)) (zero-add _ ∙ length-take-le i (states e) (omega arith))
           ∙ ap (λ ls. by-letters i x ls ++ by-states (suc i) later) (letters-split a h)
-          ∙ ap (λ ms. ms ++ by-states (suc i) later) (by-letters-append i x (ascending 1 a) (ascending (1 + a) (255 - a)))
-          ∙ append-assoc (by-letters i x (ascending 1 a)) (by-letters i x (ascending (1 + a) (255 - a))) (by-states (suc i) later))
+          ∙ ap (λ ms. ms ++ by-states (suc i) later) (by-letters-append i x (ascending 1 a) (ascending (1 + a) (last-letter - a)))
+          ∙ append-assoc (by-letters i x (ascending 1 a)) (by-letters i x (ascending (1 + a) (last-letter - a))) (by-states (suc i) later))
           ∙ sym (append-assoc (by-states 0 (take i (states e))) (by-letters i x (ascending 1 a)) more);
     }
 
 -- A member of the list by letter a of state i is met.
-pub starts-member : (e : Expression) (i a : ℕ) (ms rest : List Expression) → i < length (states e) → suc a ≤ 255
+pub starts-member : (e : Expression) (i a : ℕ) (ms rest : List Expression) → i < length (states e) → suc a ≤ last-letter
     → derivative (suc a) (getD (states e) i ∅) ≡ ms ++ rest → Starts e (before e i a ++ map (meeting i (suc a)) ms)
 starts-member e i a ms rest l h q =
     let s = starts-before e i (suc a) l h in
@@ -83,14 +80,13 @@ starts-member e i a ms rest l h q =
       rest = map by rest ++ s .rest;
       goes-on =
           s .goes-on
-          ∙ ap (λ xs. xs ++ s .rest) (before-letter e i a ∙ ap (λ xs. before e i a ++ map by xs) q ∙ ap (λ xs. before e i a ++ xs) (map-append by ms rest) ∙ sym (append-assoc (before e i a) (map by ms) (map by rest)))
+          ∙ ap (λ xs. xs ++ s .rest)
+          (before-letter e i a ∙ ap (λ xs. before e i a ++ map by xs) q ∙ ap (λ xs. before e i a ++ xs) (map-append by ms rest)
+          ∙ sym (append-assoc (before e i a) (map by ms) (map by rest)))
           ∙ append-assoc (before e i a ++ map by ms) (map by rest) (s .rest);
     }
 
 -- ---- Letters that are not used
-
-pub state-member : (e : Expression) (i : ℕ) → i < length (states e) → List·Memᴰ (getD (states e) i ∅) (states e)
-state-member e i l = getD-member (states e) i ∅ l
 
 -- By a letter that e does not use nothing is met.
 pub unused-nothing : (e x : Expression) (a : ℕ) → List·Memᴰ x (states e) → (List·Memᴰ a (letters e) → ⊥) → derivative a x ≡ []
@@ -104,12 +100,10 @@ unused-nothing e x a m n = none (derivative a x) (λ z k. n (support-letters e x
 
 -- Every part of a state is needed.
 pub parts-needed : (e x : Expression) → List·Memᴰ x (states e) → Within (parts x) (expressions e)
-unfolding expressions
-parts-needed e x m z p = to-distinct same (ε ∷ flatMap parts (states e)) z (List·Memᴰ·tail (to-flatMap parts m p))
+parts-needed e x m z p = (counted e .expressions z) .1 (part m p)
 
 pub ε-needed : (e : Expression) → List·Memᴰ ε (expressions e)
-unfolding expressions
-ε-needed e = to-distinct same (ε ∷ flatMap parts (states e)) ε (List·Memᴰ·head refl)
+ε-needed e = (counted e .expressions ε) .1 (empty refl)
 
 -- ---- The end
 

@@ -1,21 +1,22 @@
--- 01, "Needs": each of the three needs counts different things. States are the different derivatives, arcs "the different triples",
--- expressions "the different trees". Leans on `States` and `Derivative`.
+-- 01, "Needs": each of the three needs counts different things, and those that 01 names. Leans on `States`, `Derivative` and `Accepts.Arcs`.
 use Prim.Native.Nat.{ℕ, suc, _≤_}
 use native.Mathlib.Nat.{le-of-eq}
 use native.Mathlib.Omega.{arith}
 use mathlib.Core.Path.{_≡_, refl, sym, ap, _∙_, subst}
 use mathlib.Core.Logic.{_↔_, ⊎-elim}
-use mathlib.Core.List.{List, [], _∷_, _++_, map, flatMap, List·Memᴰ, List·Memᴰ·head, List·Memᴰ·tail, List·Memᴰ·append-cases, List·Memᴰ·not-nil, Memᴰ·of-map}
+use mathlib.Core.List.{List, [], _∷_, _++_, map, flatMap, List·Memᴰ, List·Memᴰ·head, List·Memᴰ·tail, List·Memᴰ·append-cases, List·Memᴰ·cases-cons, List·Memᴰ·not-nil, Memᴰ·of-map}
 use lib.ListN.{getD}
 use Rattle.theory.specs.Expression.{Expression, ∅, ε, same, parts}
-use Rattle.theory.specs.Distinct.{NoRepeats, place}
+use Rattle.theory.specs.Distinct.{distinct, NoRepeats, place}
+use Rattle.theory.specs.Needs.{Tree, empty, part, Counted}
 use Rattle.theory.specs.Derivative.{derivative}
-use Rattle.theory.specs.Automaton.{alphabet, successors, states, Derived, onward, Arc, arc, leaving, leaving-all, arcs, expressions}
-use Rattle.theory.proofs.Distinct.{at-place, distinct-no-repeats}
+use Rattle.theory.specs.Automaton.{alphabet, successors, states, onward, Arc, arc, leaving, leaving-all, arcs, expressions}
+use Rattle.theory.proofs.Distinct.{at-place, distinct-no-repeats, distinct-of, to-distinct}
 use Rattle.theory.proofs.Members.{flatMap-of, to-flatMap}
 use Rattle.theory.proofs.Derivative.{derivative-no-repeats}
 use Rattle.theory.proofs.States.{states-no-repeats, states-derived, derived-states}
 use Rattle.theory.proofs.Bounds.{alphabet-no-repeats}
+use Rattle.theory.proofs.Accepts.Arcs.{triple-iff}
 
 -- ---- Lists without repeats
 
@@ -24,7 +25,8 @@ no-repeats-append [] ys n m d = m
 no-repeats-append (x ∷ xs) ys (f, n) m d =
     (λ h. ⊎-elim f (d x (List·Memᴰ·head refl)) (List·Memᴰ·append-cases xs h), no-repeats-append xs ys n m (λ z h. d z (List·Memᴰ·tail h)))
 
-no-repeats-map : {A B : Type 0} (f : A → B) (xs : List A) → ((x y : A) → List·Memᴰ x xs → List·Memᴰ y xs → f x ≡ f y → x ≡ y) → NoRepeats xs → NoRepeats (map f xs)
+no-repeats-map : {A B : Type 0} (f : A → B) (xs : List A) → ((x y : A) → List·Memᴰ x xs → List·Memᴰ y xs → f x ≡ f y → x ≡ y) → NoRepeats xs
+    → NoRepeats (map f xs)
 no-repeats-map f [] inj n = tt
 no-repeats-map f (x ∷ xs) inj (g, n) = (
   λ h. let (y, m, e) = Memᴰ·of-map f xs h in g (subst (λ z. List·Memᴰ z xs) (inj y x (List·Memᴰ·tail m) (List·Memᴰ·head refl) e) m),
@@ -84,15 +86,32 @@ module _ (s : List Expression) where
 
 -- ---- The three needs
 
-pub states-different : (e : Expression) → NoRepeats (states e) × ((m : Expression) → List·Memᴰ m (states e) ↔ Derived e m)
-states-different e = (states-no-repeats e, λ m. (states-derived e m, derived-states))
-
-pub arcs-different : (e : Expression) → NoRepeats (arcs e)
+arcs-once : (e : Expression) → NoRepeats (arcs e)
 unfolding arcs Closed successors
-arcs-different e =
+arcs-once e =
     all-once (states e) 0 (states e)
     (λ x h a k m d. derived-states (onward (states-derived e x h) (to-flatMap (λ b. derivative b x) k d)))
 
-pub expressions-different : (e : Expression) → NoRepeats (expressions e)
+tree-iff : (e x : Expression) → List·Memᴰ x (expressions e) ↔ Tree e x
 unfolding expressions
-expressions-different e = distinct-no-repeats same (ε ∷ flatMap parts (states e))
+tree-iff e x = (forth, back)
+  where
+    forth : List·Memᴰ x (distinct same (ε ∷ flatMap parts (states e))) → Tree e x
+    forth h =
+        ⊎-elim (λ q. empty q) (λ m. let (s, k, p) = flatMap-of parts (states e) m in part k p)
+        (List·Memᴰ·cases-cons (distinct-of same (ε ∷ flatMap parts (states e)) x h))
+
+    back : Tree e x → List·Memᴰ x (distinct same (ε ∷ flatMap parts (states e)))
+    back (empty q) = to-distinct same (ε ∷ flatMap parts (states e)) x (List·Memᴰ·head q)
+    back (part k p) = to-distinct same (ε ∷ flatMap parts (states e)) x (List·Memᴰ·tail (to-flatMap parts k p))
+
+pub counted : (e : Expression) → Counted e
+unfolding expressions
+counted e = record {
+  states-once = states-no-repeats e;
+  states = λ x. (states-derived e x, derived-states);
+  arcs-once = arcs-once e;
+  arcs = triple-iff e;
+  expressions-once = distinct-no-repeats same (ε ∷ flatMap parts (states e));
+  expressions = tree-iff e;
+}

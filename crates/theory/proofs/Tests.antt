@@ -1,10 +1,7 @@
--- Boolean tests that fail or pass: which part of a conjunction, of a disjunction, of a test over the numbers below n. Assumes nothing.
-use Prim.Native.Nat.{ℕ, zero, suc, _<_}
-use native.Mathlib.Nat.{le-refl, le-step}
+-- Boolean tests that fail or pass: which part of a conjunction or of a disjunction it is.
 use mathlib.Core.Path.{_≡_, refl, sym}
 use mathlib.Core.Logic.{_⊎_, inl, inr}
 use mathlib.Core.Bool.{Bool, true, false, _&&_, _||_, false≢true}
-use Rattle.theory.specs.Record.{all-below}
 
 pub and-left : (a b : Bool) → (a && b) ≡ true → a ≡ true
 and-left true b e = refl
@@ -42,13 +39,3 @@ false-of false n = refl
 pub true-of : (b : Bool) → (b ≡ false → ⊥) → b ≡ true
 true-of true n = refl
 true-of false n = absurd (n refl)
-
-pub all-false : (n : ℕ) (p : ℕ → Bool) → all-below n p ≡ false → (k : ℕ) × (k < n) × (p k ≡ false)
-unfolding all-below
-all-false zero p e = absurd (false≢true (sym e))
-all-false (suc n) p e = go (all-below n p) refl e (all-false n p)
-  where
-    go : (b : Bool) → all-below n p ≡ b → (b && p n) ≡ false → (all-below n p ≡ false → (k : ℕ) × (k < n) × (p k ≡ false))
-        → (k : ℕ) × (k < suc n) × (p k ≡ false)
-    go true q h ih = (n, le-refl (suc n), h)
-    go false q h ih = let (k, l, f) = ih q in (k, le-step l, f)

@@ -1,8 +1,8 @@
--- Each letter of a table's tree is the letter of one of its entries. Assumes nothing.
+-- Each letter of a table's tree is the letter of one of its entries.
 use Prim.Native.Nat.{ℕ, zero, suc, pred, _<_}
 use mathlib.Core.Path.{_≡_, refl, sym, subst}
 use mathlib.Core.Logic.{⊎-elim}
-use mathlib.Core.List.{List, [], List·Memᴰ, List·Memᴰ·not-nil, List·Memᴰ·eq-of-singleton, List·Memᴰ·append-cases}
+use mathlib.Core.List.{List, List·Memᴰ, List·Memᴰ·not-nil, List·Memᴰ·eq-of-singleton, List·Memᴰ·append-cases}
 use lib.ListN.{getD}
 use Rattle.theory.specs.Expression.{Expression, ∅, letters}
 use Rattle.theory.specs.Table.{Table, row, size, tree, row-tree, node, meaning}

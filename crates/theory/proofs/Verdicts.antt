@@ -1,281 +1,169 @@
--- What the verdict on a record says, over any columns that are well-formed: accepted, unfinished, and the place of the first wrong byte. And
--- that verdict, live and form depend on nothing beyond the counts. Leans on `Accepts.Columns`: the states reached are those to which used arcs
--- lead.
-use Prim.Native.Nat.{ℕ, zero, suc, _+_, _-_, _≤_, _<_, zero-le, suc-le-suc}
+-- What the verdict on a record and live say, over any automaton: the definitions of `Record` meet the meanings of `Verdict`, each in one way only,
+-- so that automata with the same meanings have the same verdicts. Leans on `Arcs`: the states reached are those to which used arcs lead.
+use Prim.Native.Nat.{ℕ, suc, _+_, _-_, _≤_, _<_, zero-le, suc-le-suc}
 use native.Mathlib.Nat.{add-zero, zero-add, add-suc, suc-add, lt-of-not-le, le-antisymm}
 use native.Mathlib.Omega.{arith, by-contra}
-use mathlib.Core.Path.{_≡_, refl, sym, ap, ap₂, _∙_, subst, fun-ext}
-use mathlib.Core.Logic.{_↔_, Iff·trans, Iff·symm}
-use mathlib.Core.Bool.{Bool, true, false, cond, not, _&&_, false≢true, and-eq-true-iff}
+use mathlib.Core.Path.{_≡_, refl, sym, ap, _∙_, subst}
+use mathlib.Core.Logic.{_↔_, Iff·trans}
+use mathlib.Core.Bool.{Bool, true, false, cond, _&&_, false≢true, and-eq-true-iff}
 use mathlib.Core.List.{List, [], _∷_, _++_}
 use mathlib.Core.Option.{Option, none, some}
-use lib.ListN.{length, getD, take, drop, take-append-drop, length-append}
+use lib.ListN.{length, getD, take, drop, take-append-drop}
 use lib.Seq.{take-add}
-use lib.Dec.{eqb, leb, ltb}
-use borrow.Author.Tests.{eqb-false, not-true, ltb-true, le-leb}
+use lib.Dec.{eqb}
+use borrow.Author.Tests.{eqb-true, eq-eqb}
 use Rattle.theory.specs.Language.{Word}
-use Rattle.theory.specs.Column.{zeros, filled}
 use Rattle.theory.specs.Automaton.{Arc, Leads}
-use Rattle.theory.specs.Record.{Handed, handed, States, some-below, all-below, count-below, start, leads, moved, after, reached, dead-at, accepts, Verdict, accepted, unfinished, wrong, verdict, live, states-fit, arcs-fit, accepting-fits, ends-fit, well-formed}
-use Rattle.theory.proofs.Below.{some-at, some-of, all-at, some-cong, all-cong}
-use Rattle.theory.proofs.Reached.{Ends, start-below, after-below, verdict-wrong, verdict-whole}
-use Rattle.theory.proofs.Accepts.Columns.{used, reached-iff, Accepted, accepts-iff}
+use Rattle.theory.specs.Below.{some-below}
+use Rattle.theory.specs.Arcs.{Arcs, used, States, start, moved, after, reached, leads-on, dead-at}
+use Rattle.theory.specs.Record.{Handed, Verdict, accepted, unfinished, wrong, accepts, verdict, live, WellFormedAutomaton}
+use Rattle.theory.specs.Verdict.{Says, Alive, Accepted, SaysOf, Live}
+use Rattle.theory.proofs.Below.{some-at, some-of, count-none, how-many-once, how-many-cong, count-how-many}
+use Rattle.theory.proofs.Arcs.{leads-on-iff, reached-iff}
+use Rattle.theory.proofs.Reached.{start-below, after-below, dead-cons, dead-after, moved-none}
 
--- ---- States below the state count
+-- ---- A verdict over any two predicates
 
--- Some state is in s.
-abbrev pub Alive : Handed → States → Type 0
-Alive h s = (t : ℕ) × (t < h .states) × (s t ≡ true)
+module _ {S A S′ A′ : Word → Type 0} (s : (u : Word) → S u ↔ S′ u) (a : (u : Word) → A u ↔ A′ u) where
+  -- What a verdict says depends on which starts stand and which records are accepted, and on nothing else.
+  pub says-cong : (w : Word) (v : Verdict) → Says S A w v → Says S′ A′ w v
+  says-cong w accepted h = a w .0 h
+  says-cong w unfinished (h, n) = (s w .0 h, λ k. n (a w .1 k))
+  says-cong w (wrong p) (l, h, n) = (l, s (take p w) .0 h, λ k. n (s (take (suc p) w) .1 k))
 
--- What the well-formed columns bring to a verdict.
-pub record Formed (h : Handed) : Type 0 where
-  pub nonempty : 0 < h .states
-  pub ends : Ends h
+module _ {S A : Word → Type 0} (begins : (u v : Word) → S (u ++ v) → S u) (stands : (u : Word) → A u → S u) (w : Word) where
+  earlier : (i j : ℕ) → i ≤ j → S (take j w) → S (take i w)
+  earlier i j l s =
+      let parts : j ≡ i + (j - i) = omega arith in
+      begins (take i w) (take (j - i) (drop i w)) (subst S (ap (λ (n : ℕ). take n w) parts ∙ take-add i (j - i) w) s)
 
-nonempty-of : (h : Handed) → states-fit h ≡ true → 0 < h .states
-unfolding states-fit
-nonempty-of h e =
-    let nonzero = (and-eq-true-iff _ _) .0 ((and-eq-true-iff _ _) .0 e .0) .0 in
-    let n = eqb-false (h .states) 0 (not-true _ nonzero) in omega arith
+  wrong-not-whole : (p : ℕ) → Says S A w (wrong p) → S w → ⊥
+  wrong-not-whole p (_, _, n) s = n (begins (take (suc p) w) (drop (suc p) w) (subst S (sym (take-append-drop (suc p) w)) s))
 
-ends-of : (h : Handed) → ends-fit h ≡ true → Ends h
-unfolding ends-fit
-ends-of h e i l =
-    let fit : (ltb (getD (h .from) i 0) (h .states) && ltb (getD (h .to) i 0) (h .states) && not (eqb (getD (h .letter) i 0) 0)) ≡ true = all-at (h .arcs) _ i e l in
-    ltb-true _ _ ((and-eq-true-iff (ltb (getD (h .from) i 0) (h .states)) _) .0 ((and-eq-true-iff _ _) .0 fit .0) .1)
+  wrong-once : (p q : ℕ) → Says S A w (wrong p) → Says S A w (wrong q) → p ≡ q
+  wrong-once p q (_, c, d) (_, f, g) =
+      le-antisymm (by-contra p q (λ l. g (earlier (suc q) p l c))) (by-contra q p (λ l. d (earlier (suc p) q l f)))
 
-pub formed : (h : Handed) → well-formed h ≡ true → Formed h
-unfolding well-formed
-formed h e =
-    let (sound, ends) = (and-eq-true-iff _ _) .0 e in
-    let states = (and-eq-true-iff _ _) .0 ((and-eq-true-iff _ _) .0 sound .0) .0 in
-    record { nonempty = nonempty-of h states; ends = ends-of h ends }
+  -- Where the starts of what stands stand, and what is accepted stands, one verdict says the truth.
+  pub says-once : (u v : Verdict) → Says S A w u → Says S A w v → u ≡ v
+  says-once accepted accepted a b = refl
+  says-once accepted unfinished a b = absurd (b .1 a)
+  says-once accepted (wrong q) a b = absurd (wrong-not-whole q b (stands w a))
+  says-once unfinished accepted a b = absurd (a .1 b)
+  says-once unfinished unfinished a b = refl
+  says-once unfinished (wrong q) a b = absurd (wrong-not-whole q b (a .0))
+  says-once (wrong p) accepted a b = absurd (wrong-not-whole p a (stands w b))
+  says-once (wrong p) unfinished a b = absurd (wrong-not-whole p a (b .0))
+  says-once (wrong p) (wrong q) a b = ap wrong (wrong-once p q a b)
 
--- ---- A record and its beginnings
+-- ---- The starts that stand, and the records that are accepted
 
 leads-append : (zs : List Arc) (i : ℕ) (u v : Word) (t : ℕ) → Leads zs i (u ++ v) t → (k : ℕ) × Leads zs i u k × Leads zs k v t
 leads-append zs i [] v t m = (i, refl, m)
 leads-append zs i (a ∷ u) v t (j, z, m) = let (k, p, q) = leads-append zs j u v t m in (k, (j, z, p), q)
 
-module _ {h : Handed} (good : Formed h) where
-  reached-below : (w : Word) (t : ℕ) → reached h w t ≡ true → t < h .states
-  unfolding reached
-  reached-below w t r =
-      lt-of-not-le (λ l. false≢true (sym (after-below h (good .ends) start (start-below (h .states) (good .nonempty)) w t l) ∙ r))
+-- Where a record reaches a state, each beginning of it does.
+alive-begins : (a : Arcs) (u v : Word) → Alive a (u ++ v) → Alive a u
+alive-begins a u v (t, m) = let (k, p, _) = leads-append (used a) 0 u v t m in (k, p)
 
-  -- Where a record reaches a state, each beginning of it does.
-  begins : (u v : Word) → Alive h (reached h (u ++ v)) → Alive h (reached h u)
-  begins u v (t, _, r) =
-      let (k, m, _) = leads-append (used h) 0 u v t ((reached-iff h (u ++ v) t) .0 r) in
-      let q = (reached-iff h u k) .1 m in
-      (k, reached-below u k q, q)
+alive-iff : (a : Arcs) (w : Word) → ((t : ℕ) × (reached a w t ≡ true)) ↔ Alive a w
+alive-iff a w = (λ (t, r). (t, (reached-iff a w t) .0 r), λ (t, m). (t, (reached-iff a w t) .1 m))
 
-  earlier : (w : Word) (i j : ℕ) → i ≤ j → Alive h (reached h (take j w)) → Alive h (reached h (take i w))
-  earlier w i j l s =
-      let parts : j ≡ i + (j - i) = omega arith in
-      begins (take i w) (take (j - i) (drop i w)) (subst (λ u. Alive h (reached h u)) (ap (λ (n : ℕ). take n w) parts ∙ take-add i (j - i) w) s)
+accepted-alive : (h : Handed) (w : Word) → Accepted h w → Alive (h .arcs) w
+accepted-alive h w (t, m, _, _) = (t, m)
+
+pub accepts-iff : (h : Handed) (w : Word) → (accepts h w ≡ true) ↔ Accepted h w
+unfolding accepts
+accepts-iff h w = (forth, λ (t, m, l, a). some-at (h .states) test t l ((and-eq-true-iff _ _) .1 ((reached-iff (h .arcs) w t) .1 m, eq-eqb _ _ a)))
+  where
+    test : ℕ → Bool
+    test t = reached (h .arcs) w t && eqb (getD (h .accepting) t 0) 1
+
+    forth : some-below (h .states) test ≡ true → Accepted h w
+    forth e =
+        let (t, l, q) = some-of (h .states) test e in
+        let (r, a) = (and-eq-true-iff _ _) .0 q in
+        (t, (reached-iff (h .arcs) w t) .0 r, l, eqb-true _ _ a)
 
 -- ---- The first dead byte
 
+-- Some state is in s.
+abbrev Some : States → Type 0
+Some s = (t : ℕ) × (s t ≡ true)
+
 -- The course of a record from the states s: it dies at a byte of its own, or lives to its end.
-data Course (h : Handed) (s : States) (p : ℕ) (w : Word) : Type 0 where
-  dies : (k : ℕ) → k < length w → Alive h (after h s (take k w)) → (Alive h (after h s (take (suc k) w)) → ⊥) → dead-at h s p w ≡ some (p + k)
-      → Course h s p w
-  lives : Alive h (after h s w) → dead-at h s p w ≡ none → Course h s p w
+data Course (a : Arcs) (s : States) (p : ℕ) (w : Word) : Type 0 where
+  dies : (k : ℕ) → k < length w → Some (after a s (take k w)) → (Some (after a s (take (suc k) w)) → ⊥) → dead-at a s p w ≡ some (p + k) → Course a s p w
+  lives : Some (after a s w) → dead-at a s p w ≡ none → Course a s p w
 
-course : (h : Handed) (s : States) (p : ℕ) (w : Word) → Alive h s → Course h s p w
+course : (a : Arcs) (s : States) (p : ℕ) (w : Word) → Some s → Course a s p w
 unfolding after dead-at
-course h s p [] a = lives a refl
-course h s p (b ∷ w) a = go (some-below (h .states) (moved h s b)) refl (course h (moved h s b) (suc p) w)
+course a s p [] h = lives h refl
+course a s p (b ∷ w) h = go (leads-on a s b) refl (course a (moved a s b) (suc p) w)
   where
-    next : States
-    next = moved h s b
-
-    go : (d : Bool) → some-below (h .states) next ≡ d → (Alive h next → Course h next (suc p) w) → Course h s p (b ∷ w)
-    go true e later = on (later (some-of (h .states) next e))
+    go : (d : Bool) → leads-on a s b ≡ d → (Some (moved a s b) → Course a (moved a s b) (suc p) w) → Course a s p (b ∷ w)
+    go true e later = on (later ((leads-on-iff a s b) .0 e))
       where
-        on : Course h next (suc p) w → Course h s p (b ∷ w)
-        on (dies k l c d q) = dies (suc k) (suc-le-suc l) c d (rw (dead-at, e) (q ∙ ap some (suc-add p k ∙ sym (add-suc p k))))
-        on (lives c q) = lives c (rw (dead-at, e) q)
+        on : Course a (moved a s b) (suc p) w → Course a s p (b ∷ w)
+        on (dies k l c d q) = dies (suc k) (suc-le-suc l) c d (dead-cons a s p b w true e ∙ q ∙ ap some (suc-add p k ∙ sym (add-suc p k)))
+        on (lives c q) = lives c (dead-cons a s p b w true e ∙ q)
     go false e later =
-        dies 0 (suc-le-suc zero-le) a (λ (t, l, r). false≢true (sym e ∙ some-at (h .states) next t l r)) (rw (dead-at, e) (ap some (sym (add-zero p))))
+        dies 0 (suc-le-suc zero-le) h (λ (t, r). false≢true (sym (moved-none a s b e t) ∙ r)) (dead-cons a s p b w false e ∙ ap some (sym (add-zero p)))
 
 -- ---- The verdict
 
--- 01: "p is the first byte, from 0, after which no state is reached".
-abbrev pub WrongAt : Handed → Word → ℕ → Type 0
-WrongAt h w p = (p < length w) × (Alive h (reached h (take (suc p) w)) → ⊥) × Alive h (reached h (take p w))
+pub verdict-wrong : (h : Handed) (w : Word) (p : ℕ) → dead-at (h .arcs) start 0 w ≡ some p → verdict h w ≡ wrong p
+unfolding verdict
+verdict-wrong h w p e = ap (λ (d : Option ℕ). elim d [ some q ↦ wrong q | none ↦ cond (accepts h w) accepted unfinished ]) e
 
--- 01: "states are reached, none accepting".
-abbrev pub Unfinished : Handed → Word → Type 0
-Unfinished h w = Alive h (reached h w) × (Accepted h w → ⊥)
+pub verdict-whole : (h : Handed) (w : Word) → dead-at (h .arcs) start 0 w ≡ none → verdict h w ≡ cond (accepts h w) accepted unfinished
+unfolding verdict
+verdict-whole h w e = ap (λ (d : Option ℕ). elim d [ some q ↦ wrong q | none ↦ cond (accepts h w) accepted unfinished ]) e
 
--- What a verdict says of a record.
-abbrev pub Says : Handed → Word → Verdict → Type 0
-Says h w accepted = Accepted h w
-Says h w unfinished = Unfinished h w
-Says h w (wrong p) = WrongAt h w p
+says-true : (h : Handed) (w : Word) → SaysOf h w (verdict h w)
+unfolding reached start
+says-true h w = go (course (h .arcs) start 0 w (0, refl))
+  where
+    whole : (b : Bool) → accepts h w ≡ b → Alive (h .arcs) w → SaysOf h w (cond b accepted unfinished)
+    whole true e s = (accepts-iff h w) .0 e
+    whole false e s = (s, λ a. false≢true (sym e ∙ (accepts-iff h w) .1 a))
 
-module _ {h : Handed} (good : Formed h) (w : Word) where
-  says-true : Says h w (verdict h w)
-  unfolding reached start
-  says-true = go (course h start 0 w (0, good .nonempty, refl))
-    where
-      whole : (b : Bool) → accepts h w ≡ b → Alive h (reached h w) → Says h w (cond b accepted unfinished)
-      whole true e s = (accepts-iff h w) .0 e
-      whole false e s = (s, λ a. false≢true (sym e ∙ (accepts-iff h w) .1 a))
+    go : Course (h .arcs) start 0 w → SaysOf h w (verdict h w)
+    go (dies k l c d q) =
+        subst (SaysOf h w) (sym (verdict-wrong h w k (q ∙ ap some (zero-add k))))
+        (l, (alive-iff (h .arcs) (take k w)) .0 c, λ s. d ((alive-iff (h .arcs) (take (suc k) w)) .1 s))
+    go (lives c q) = subst (SaysOf h w) (sym (verdict-whole h w q)) (whole (accepts h w) refl ((alive-iff (h .arcs) w) .0 c))
 
-      go : Course h start 0 w → Says h w (verdict h w)
-      go (dies k l c d q) = subst (Says h w) (sym (verdict-wrong h w k (q ∙ ap some (zero-add k)))) (l, d, c)
-      go (lives c q) = subst (Says h w) (sym (verdict-whole h w q)) (whole (accepts h w) refl c)
+pub verdict-says : (h : Handed) (w : Word) (v : Verdict) → (verdict h w ≡ v) ↔ SaysOf h w v
+verdict-says h w v = (
+  λ e. subst (SaysOf h w) e (says-true h w),
+  says-once (alive-begins (h .arcs)) (accepted-alive h) w (verdict h w) v (says-true h w),
+)
 
-  wrong-not-whole : (p : ℕ) → WrongAt h w p → Alive h (reached h w) → ⊥
-  wrong-not-whole p (_, d, _) s =
-      d (begins good (take (suc p) w) (drop (suc p) w) (subst (λ u. Alive h (reached h u)) (sym (take-append-drop (suc p) w)) s))
+-- Automata along which the same starts stand and that accept the same records have the same verdicts.
+pub verdict-cong : (h k : Handed) → ((u : Word) → Alive (h .arcs) u ↔ Alive (k .arcs) u) → ((u : Word) → Accepted h u ↔ Accepted k u)
+    → (w : Word) → verdict h w ≡ verdict k w
+verdict-cong h k s a w = sym ((verdict-says k w (verdict h w)) .1 (says-cong s a w (verdict h w) (says-true h w)))
 
-  wrong-not-accepted : (p : ℕ) → WrongAt h w p → Accepted h w → ⊥
-  wrong-not-accepted p x (t, l, r, _) = wrong-not-whole p x (t, l, r)
+-- ---- Live
 
-  wrong-once : (p q : ℕ) → WrongAt h w p → WrongAt h w q → p ≡ q
-  wrong-once p q (_, d, c) (_, f, g) =
-      le-antisymm (by-contra p q (λ l. f (earlier good w (suc q) p l c))) (by-contra q p (λ l. d (earlier good w (suc p) q l g)))
-
-  says-once : (u v : Verdict) → Says h w u → Says h w v → u ≡ v
-  says-once accepted accepted a b = refl
-  says-once accepted unfinished a b = absurd (b .1 a)
-  says-once accepted (wrong q) a b = absurd (wrong-not-accepted q b a)
-  says-once unfinished accepted a b = absurd (a .1 b)
-  says-once unfinished unfinished a b = refl
-  says-once unfinished (wrong q) a b = absurd (wrong-not-whole q b (a .0))
-  says-once (wrong p) accepted a b = absurd (wrong-not-accepted p a b)
-  says-once (wrong p) unfinished a b = absurd (wrong-not-whole p a (b .0))
-  says-once (wrong p) (wrong q) a b = ap wrong (wrong-once p q a b)
-
-module _ (h : Handed) (good : well-formed h ≡ true) (w : Word) where
-  pub verdict-says : (v : Verdict) → (verdict h w ≡ v) ↔ Says h w v
-  verdict-says v =
-      let true-one = says-true (formed h good) w in
-      (λ e. subst (Says h w) e true-one, says-once (formed h good) w (verdict h w) v true-one)
-
-  pub verdict-accepted : (verdict h w ≡ accepted) ↔ (accepts h w ≡ true)
-  verdict-accepted = Iff·trans (verdict-says accepted) (Iff·symm (accepts-iff h w))
-
-  pub verdict-unfinished : (verdict h w ≡ unfinished) ↔ Unfinished h w
-  verdict-unfinished = verdict-says unfinished
-
-  pub verdict-wrong-at : (p : ℕ) → (verdict h w ≡ wrong p) ↔ WrongAt h w p
-  verdict-wrong-at p = verdict-says (wrong p)
-
--- ---- Nothing beyond the counts matters
-
--- The same counts, and the same columns below them.
-pub record Agree (h k : Handed) : Type 0 where
-  pub states : h .states ≡ k .states
-  pub accepting : (t : ℕ) → t < h .states → getD (h .accepting) t 0 ≡ getD (k .accepting) t 0
-  pub arcs : h .arcs ≡ k .arcs
-  pub from : (i : ℕ) → i < h .arcs → getD (h .from) i 0 ≡ getD (k .from) i 0
-  pub letter : (i : ℕ) → i < h .arcs → getD (h .letter) i 0 ≡ getD (k .letter) i 0
-  pub to : (i : ℕ) → i < h .arcs → getD (h .to) i 0 ≡ getD (k .to) i 0
-
--- The columns reach as far as their counts.
-abbrev pub Covered : Handed → Type 0
-Covered h = (h .states ≤ length (h .accepting)) × (h .arcs ≤ length (h .from))
-
-module _ {h k : Handed} (a : Agree h k) where
-  moved-agree : (s : States) (b : ℕ) → moved h s b ≡ moved k s b
-  unfolding moved leads
-  moved-agree s b =
-      fun-ext (λ t. some-cong (h .arcs) _ _ (step t) ∙ ap (λ (n : ℕ). some-below n (leads (k .from) (k .letter) (k .to) s b t)) (a .arcs))
-    where
-      step : (t i : ℕ) → i < h .arcs → leads (h .from) (h .letter) (h .to) s b t i ≡ leads (k .from) (k .letter) (k .to) s b t i
-      step t i l =
-          λ j. elim (eqb (a .letter i l j) b) [ true ↦ elim (eqb (a .to i l j) t) [ true ↦ s (a .from i l j) | false ↦ false ] | false ↦ false ]
-
-  after-agree : (s : States) (w : Word) → after h s w ≡ after k s w
-  unfolding after
-  after-agree s [] = refl
-  after-agree s (b ∷ w) = after-agree (moved h s b) w ∙ ap (λ (r : States). after k r w) (moved-agree s b)
-
-  reached-agree : (w : Word) → reached h w ≡ reached k w
+module _ (h : Handed) (good : WellFormedAutomaton h) where
+  reached-below : (w : Word) (t : ℕ) → reached (h .arcs) w t ≡ true → t < h .states
   unfolding reached
-  reached-agree w = after-agree start w
+  reached-below w t r =
+      lt-of-not-le (λ l. false≢true (sym (after-below (h .arcs) (good .to-below) start (start-below (h .states) (good .some-state)) w t l) ∙ r))
 
-  dead-agree : (s : States) (p : ℕ) (w : Word) → dead-at h s p w ≡ dead-at k s p w
-  unfolding dead-at
-  dead-agree s p [] = refl
-  dead-agree s p (b ∷ w) =
-      ap₂ (λ (d : Bool) (o : Option ℕ). elim d [ true ↦ o | false ↦ some p ])
-      (ap₂ some-below (a .states) (moved-agree s b))
-      (dead-agree (moved h s b) (suc p) w ∙ ap (λ (r : States). dead-at k r (suc p) w) (moved-agree s b))
-
-  accepts-agree : (w : Word) → accepts h w ≡ accepts k w
-  unfolding accepts
-  accepts-agree w =
-      some-cong (h .states) _ _ (λ t l. ap₂ (λ (d : Bool) (n : ℕ). d && eqb n 1) (ap (λ (r : States). r t) (reached-agree w)) (a .accepting t l))
-      ∙ ap (λ (n : ℕ). some-below n (λ t. reached k w t && eqb (getD (k .accepting) t 0) 1)) (a .states)
-
-  pub verdict-cong : (w : Word) → verdict h w ≡ verdict k w
-  unfolding verdict
-  verdict-cong w =
-      ap₂ (λ (d : Option ℕ) (b : Bool). elim d [ some p ↦ wrong p | none ↦ cond b accepted unfinished ]) (dead-agree start 0 w) (accepts-agree w)
-
-  pub live-cong : (w : Word) → live h w ≡ live k w
+  -- Every state that is reached is counted.
+  pub live-says : (w : Word) (n : ℕ) → (live h w ≡ n) ↔ Live h w n
   unfolding live
-  live-cong w = ap₂ count-below (a .states) (reached-agree w)
-
-  pub well-formed-cong : Covered h → Covered k → well-formed h ≡ well-formed k
-  unfolding well-formed states-fit arcs-fit accepting-fits ends-fit
-  well-formed-cong (sh, ah) (sk, ak) =
-      ap₂ _&&_ (ap₂ _&&_ (ap₂ _&&_ states-agree arcs-agree) accepting-agree) ends-agree
+  live-says w n = (λ e. subst (Live h w) e is, λ k. how-many-once is k)
     where
-      states-agree : states-fit h ≡ states-fit k
-      states-agree = ap₂ _&&_ (ap (λ (n : ℕ). not (eqb n 0) && leb n 65535) (a .states)) (le-leb _ _ sh ∙ sym (le-leb _ _ sk))
+      is : Live h w (live h w)
+      is =
+          how-many-cong (λ t. Iff·trans (λ (l, r). r, λ r. (reached-below w t r, r)) (reached-iff (h .arcs) w t))
+          (count-how-many (h .states) (reached (h .arcs) w))
 
-      arcs-agree : arcs-fit h ≡ arcs-fit k
-      arcs-agree = ap₂ _&&_ (le-leb _ _ ah ∙ sym (le-leb _ _ ak)) (ap (λ (n : ℕ). leb n 16777216) (a .arcs))
-
-      accepting-agree : accepting-fits h ≡ accepting-fits k
-      accepting-agree =
-          all-cong (h .states) _ _ (λ t l. ap (λ (n : ℕ). leb n 1) (a .accepting t l))
-          ∙ ap (λ (n : ℕ). all-below n (λ t. leb (getD (k .accepting) t 0) 1)) (a .states)
-
-      ends-agree : ends-fit h ≡ ends-fit k
-      ends-agree =
-          all-cong (h .arcs) _ _ (λ i l. λ j. ltb (a .from i l j) (a .states j) && ltb (a .to i l j) (a .states j) && not (eqb (a .letter i l j) 0))
-          ∙ ap (λ (n : ℕ). all-below n (λ i. ltb (getD (k .from) i 0) (k .states) && ltb (getD (k .to) i 0) (k .states) && not (eqb (getD (k .letter) i 0) 0))) (a .arcs)
-
--- ---- Columns filled up with zero
-
-getD-zeros : (n i : ℕ) → getD (zeros n) i 0 ≡ 0
-getD-zeros zero i = refl
-getD-zeros (suc n) zero = refl
-getD-zeros (suc n) (suc i) = getD-zeros n i
-
-getD-more : (xs : List ℕ) (n i : ℕ) → getD (xs ++ zeros n) i 0 ≡ getD xs i 0
-getD-more [] n i = getD-zeros n i
-getD-more (x ∷ xs) n zero = refl
-getD-more (x ∷ xs) n (suc i) = getD-more xs n i
-
--- Zero is what is read beyond a column's end, so the columns that are filled up need not even reach the counts.
-module _ (n : ℕ) (acc : List ℕ) (m : ℕ) (f l t : List ℕ) (a b c d : ℕ) where
-  pub agree-filled : Agree (handed n (filled a acc) m (filled b f) (filled c l) (filled d t)) (handed n acc m f l t)
-  agree-filled = record {
-    states = refl;
-    accepting = λ i _. getD-more acc (a - length acc) i;
-    arcs = refl;
-    from = λ i _. getD-more f (b - length f) i;
-    letter = λ i _. getD-more l (c - length l) i;
-    to = λ i _. getD-more t (d - length t) i;
-  }
-
-  pub verdict-filled : (w : Word) → verdict (handed n (filled a acc) m (filled b f) (filled c l) (filled d t)) w ≡ verdict (handed n acc m f l t) w
-  verdict-filled = verdict-cong agree-filled
-
-  pub live-filled : (w : Word) → live (handed n (filled a acc) m (filled b f) (filled c l) (filled d t)) w ≡ live (handed n acc m f l t) w
-  live-filled = live-cong agree-filled
-
-  pub well-formed-filled : Covered (handed n acc m f l t)
-      → well-formed (handed n (filled a acc) m (filled b f) (filled c l) (filled d t)) ≡ well-formed (handed n acc m f l t)
-  well-formed-filled (s, k) =
-      well-formed-cong agree-filled
-      (omega (arith, length-append acc (zeros (a - length acc))), omega (arith, length-append f (zeros (b - length f)))) (s, k)
+-- 01: "wrong at p: .. live is 0".
+pub live-dead : (h : Handed) (p : ℕ) (w : Word) → dead-at (h .arcs) start 0 w ≡ some p → live h w ≡ 0
+unfolding live reached
+live-dead h p w e = count-none (h .states) (after (h .arcs) start w) (λ t _. dead-after (h .arcs) start 0 p w e t)

@@ -2,7 +2,7 @@
 use Prim.Native.Nat.{ℕ, _≤_, _<_, min}
 use mathlib.Core.Path.{_≡_}
 use mathlib.Core.Bool.{Bool, true, false, cond, _&&_, _||_}
-use mathlib.Core.List.{List, map}
+use mathlib.Core.List.{List}
 use lib.ListN.{length, getD}
 use lib.Dec.{eqb, ltb}
 use Rattle.theory.specs.Expression.{Expression, ∅}
@@ -11,7 +11,8 @@ use Rattle.theory.specs.Refusal.{Refusal, refusal, success, or-else, col
 use Rattle.theory.specs.Limit.{most-expressions, most-states, most-arcs}
 use Rattle.theory.specs.Column.{zeros, filled}
 use Rattle.theory.specs.Table.{Table, row, entry, Sound, trees, tree-at, tree, table-refusal, SameLengths}
-use Rattle.theory.specs.Automaton.{Arc, states, accepting, arcs, expressions}
+use Rattle.theory.specs.Automaton.{states, accepting, arcs, expressions}
+use Rattle.theory.specs.Arcs.{ArcColumns, even-arcs, EvenArcs, no-arcs, filled-arcs}
 
 -- 01: "The caller lends: expressions (the three columns above), states (expression number 16 bits, accepting 0 or 1 in 8 bits),
 -- arcs (from 16 bits, letter 8 bits, to 16 bits)."
@@ -19,27 +20,25 @@ pub record Lent : Type 0 where
   pub rows : Table
   pub expression : List ℕ
   pub accepting : List ℕ
-  pub from : List ℕ
-  pub letter : List ℕ
-  pub to : List ℕ
+  pub arcs : ArcColumns
 
-abbrev pub lent : Table → List ℕ → List ℕ → List ℕ → List ℕ → List ℕ → Lent
-lent t x acc f l o = record { rows = t; expression = x; accepting = acc; from = f; letter = l; to = o }
+abbrev pub lent : Table → List ℕ → List ℕ → ArcColumns → Lent
+lent t x acc a = record { rows = t; expression = x; accepting = acc; arcs = a }
 
 -- ---- Refusals
 
 -- 01, refusal 1: "columns of one table differ in length", here of the three lent tables.
 unfoldable pub even : Lent → Bool
+unfolding even-arcs
 even c =
     eqb (length (c .rows .left)) (length (c .rows .kind)) && eqb (length (c .rows .right)) (length (c .rows .kind))
-    && eqb (length (c .accepting)) (length (c .expression)) && eqb (length (c .letter)) (length (c .from)) && eqb (length (c .to)) (length (c .from))
+    && eqb (length (c .accepting)) (length (c .expression)) && even-arcs (c .arcs)
 
 -- The columns of each lent table are equally long: what `even` tests.
 pub record EvenLent (c : Lent) : Type 0 where
   pub rows : SameLengths (c .rows)
   pub states : length (c .accepting) ≡ length (c .expression)
-  pub letter : length (c .letter) ≡ length (c .from)
-  pub to : length (c .to) ≡ length (c .from)
+  pub arcs : EvenArcs (c .arcs)
 
 -- 01: "Rooms: table length, or 65,535 for expressions and states and 16,777,216 for arcs if that is smaller."
 abbrev pub expression-room : Lent → ℕ
@@ -49,7 +48,7 @@ abbrev pub state-room : Lent → ℕ
 state-room c = min (length (c .expression)) most-states
 
 abbrev pub arc-room : Lent → ℕ
-arc-room c = min (length (c .from)) most-arcs
+arc-room c = min (length (c .arcs .from)) most-arcs
 
 -- 01: "Refusal 9 is given exactly when a need exceeds its room."
 unfoldable pub over-room : Expression → Lent → Bool
@@ -101,9 +100,7 @@ pub record Cleared (c c′ : Lent) : Type 0 where
   pub right : c′ .rows .right ≡ zeros (length (c .rows .right))
   pub expression : c′ .expression ≡ zeros (length (c .expression))
   pub accepting : c′ .accepting ≡ zeros (length (c .accepting))
-  pub from : c′ .from ≡ zeros (length (c .from))
-  pub letter : c′ .letter ≡ zeros (length (c .letter))
-  pub to : c′ .to ≡ zeros (length (c .to))
+  pub arcs : c′ .arcs ≡ no-arcs (c .arcs)
 
 -- 01's one exception: "the set of trees that the table holds, each once and each child before its parent" is determined, and not the
 -- numbering of its rows. The first n rows of t hold exactly the trees es; beyond them all is zero.
@@ -129,9 +126,7 @@ pub record Stands (e : Expression) (c c′ : Lent) : Type 0 where
   pub rows : Holds (c′ .rows) (length (expressions e)) (expressions e)
   pub expression : Names (c′ .rows) (length (expressions e)) (c′ .expression) (states e)
   pub accepting : c′ .accepting ≡ filled (length (c .accepting)) (accepting e)
-  pub from : c′ .from ≡ filled (length (c .from)) (map (λ (a : Arc). a .from) (arcs e))
-  pub letter : c′ .letter ≡ filled (length (c .letter)) (map (λ (a : Arc). a .letter) (arcs e))
-  pub to : c′ .to ≡ filled (length (c .to)) (map (λ (a : Arc). a .to) (arcs e))
+  pub arcs : c′ .arcs ≡ filled-arcs (c .arcs) (arcs e)
 
 -- What `build` owes.
 pub record Built (g : Table) (c : Lent) (answer : Counts) (c′ : Lent) : Type 0 where

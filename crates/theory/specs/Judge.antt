@@ -1,14 +1,11 @@
--- The promise of `matcher::judge`: what it answers and what it leaves in both work columns, for every input.
+-- The promise of `matcher::judge`: what it answers and what it leaves in the work columns, for every input.
 use Prim.Native.Nat.{ℕ}
 use mathlib.Core.Path.{_≡_}
 use mathlib.Core.Bool.{true, false}
-use mathlib.Core.List.{List}
-use lib.ListN.{length}
 use lib.Dec.{eqb}
 use Rattle.theory.specs.Refusal.{Refusal, success}
-use Rattle.theory.specs.Column.{zeros}
 use Rattle.theory.specs.Language.{Word}
-use Rattle.theory.specs.Record.{Handed, Verdict, accepted, unfinished, wrong, verdict, live, matcher-refusal}
+use Rattle.theory.specs.Record.{Handed, Work, cleared, Verdict, accepted, unfinished, wrong, verdict, live, matcher-refusal}
 
 -- The answer as numbers: the refusal, the verdict (1 accepted, 2 unfinished, 3 wrong, and 0 where the call is refused), its place, and live.
 pub record Judgement : Type 0 where
@@ -26,13 +23,12 @@ given (wrong p) n = record { refusal = success; verdict = 3; place = p; live = n
 abbrev pub withheld : Refusal → Judgement
 withheld r = record { refusal = r; verdict = 0; place = 0; live = 0 }
 
-unfoldable pub judgement : Handed → ℕ → ℕ → Word → Judgement
+unfoldable pub judgement : Handed → Work → Word → Judgement
 unfolding matcher-refusal verdict live
-judgement h now next w =
-    elim (eqb ((matcher-refusal h now next) .number) 0) [ true ↦ given (verdict h w) (live h w) | false ↦ withheld (matcher-refusal h now next) ]
+judgement h k w =
+    elim (eqb ((matcher-refusal h k) .number) 0) [ true ↦ given (verdict h w) (live h w) | false ↦ withheld (matcher-refusal h k) ]
 
--- What `judge` owes: the answer, and both work columns zero whole on every way out (01: "Work columns are zero afterwards").
-pub record Judged (h : Handed) (w : Word) (now next : List ℕ) (answer : Judgement) (now′ next′ : List ℕ) : Type 0 where
-  pub answers : answer ≡ judgement h (length now) (length next) w
-  pub now-zero : now′ ≡ zeros (length now)
-  pub next-zero : next′ ≡ zeros (length next)
+-- What `judge` owes: the answer, and the work columns zero whole on every way out (01: "Work columns are zero afterwards").
+pub record Judged (h : Handed) (w : Word) (k : Work) (answer : Judgement) (k′ : Work) : Type 0 where
+  pub answers : answer ≡ judgement h k w
+  pub cleared : k′ ≡ cleared k

@@ -7,10 +7,15 @@ pub mod Distinct
 pub mod Language
 pub mod Derivative
 pub mod Automaton
+pub mod Needs
+pub mod Meetings
+pub mod Below
+pub mod Arcs
 pub mod Table
 pub mod Grammar
 pub mod Scan
 pub mod Record
+pub mod Verdict
 pub mod Read
 pub mod Build
 pub mod Judge

@@ -18,7 +18,7 @@ unfoldable pub decimal : ℕ → List ℕ
 unfolding digits-in
 decimal n = digits-in (suc n) n
 
--- A number and the byte behind it: "single spaces", and a newline at a line's end.
+-- A number and the byte after it: "single spaces", and a newline at a line's end.
 abbrev pub space : ℕ
 space = 32
 
@@ -26,7 +26,7 @@ abbrev pub newline : ℕ
 newline = 10
 
 abbrev pub number-and : ℕ → ℕ → List ℕ
-number-and n behind = decimal n ++ (behind ∷ [])
+number-and n after = decimal n ++ (after ∷ [])
 
 -- ---- The listing program
 
