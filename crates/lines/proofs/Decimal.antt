@@ -1,10 +1,11 @@
--- The fewest digits that hold a number are the definition's.
-use Prim.Native.Nat.{ℕ, zero, suc, _+_, _-_, _/_, _%_, _^_, _≤_, _<_}
-use native.Mathlib.Nat.{suc-sub-suc, sub-zero, pow-suc, one-le-pow, pow-le-pow-right, mod-lt, mod-eq-of-lt}
-use native.Mathlib.Omega.{arith, by-contra}
+-- The fewest digits that hold a number are the definition's, and a small number has few.
+use Prim.Native.Nat.{ℕ, zero, suc, _+_, _/_, _%_, _^_, _≤_, _<_, zero-le}
+use native.Mathlib.Nat.{suc-sub-suc, sub-zero, pow-suc, one-le-pow, mod-lt, mod-eq-of-lt}
+use native.Mathlib.Omega.{arith}
 use mathlib.Core.Path.{_≡_, refl, sym, ap, ap₂, _∙_, subst}
 use mathlib.Core.Bool.{Bool, true, false, cond}
 use mathlib.Core.List.{List, [], _∷_, _++_}
+use lib.ListN.{length, length-append}
 use lib.Dec.{ltb}
 use borrow.Author.Tests.{ltb-true, ltb-false}
 use Rattle.io.specs.Digits.{glyph, digits, Fewest}
@@ -54,7 +55,22 @@ pub decimal-digits : (n k : ℕ) → Fewest 10 1 n k → digits 10 k n ≡ decim
 unfolding decimal digits-in
 decimal-digits n k f = sym (in-steps (suc n) n k (omega arith) f)
 
--- 2^64 is below 10^20.
-pub twenty-digits : (n k : ℕ) → n < 2 ^ 64 → Fewest 10 1 n k → k ≤ 20
-twenty-digits n k l f =
-    by-contra k 20 (λ h. let a = f .2 (omega arith) in let p = pow-le-pow-right {n = 10} (omega arith) {i = 20} {j = k - 1} (omega arith) in omega arith)
+digits-short : (steps n k : ℕ) → n < 10 ^ suc k → length (digits-in steps n) ≤ suc k
+unfolding digits-in
+digits-short zero n k l = zero-le
+digits-short (suc s) n zero l = go (ltb n 10) refl
+  where
+    go : (b : Bool) → ltb n 10 ≡ b → length (cond b ((48 + n) ∷ []) (digits-in s (n / 10) ++ ((48 + n % 10) ∷ []))) ≤ 1
+    go true e = omega arith
+    go false e = absurd (let m = ltb-false n 10 e in omega arith)
+digits-short (suc s) n (suc k) l = go (ltb n 10) (digits-short s (n / 10) k (let p = pow-suc 10 (suc k) in omega arith))
+  where
+    go : (b : Bool) → length (digits-in s (n / 10)) ≤ suc k
+        → length (cond b ((48 + n) ∷ []) (digits-in s (n / 10) ++ ((48 + n % 10) ∷ []))) ≤ suc (suc k)
+    go true h = omega arith
+    go false h = let m = length-append (digits-in s (n / 10)) ((48 + n % 10) ∷ []) in omega arith
+
+-- A number below a power of ten has no more digits than the power has zeros.
+pub decimal-short : (n k : ℕ) → n < 10 ^ suc k → length (decimal n) ≤ suc k
+unfolding decimal
+decimal-short n k l = digits-short (suc n) n k l

@@ -1,3 +1,4 @@
 pub mod Putting
 pub mod Taking
 pub mod Decimal
+pub mod Settled

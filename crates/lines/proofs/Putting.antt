@@ -1,4 +1,4 @@
--- Text behind text.
+-- Text after text in a block: a byte, a word, a number, a refusal's line.
 use Prim.Native.Nat.{ℕ, suc, _+_, _^_, _≤_, _<_}
 use native.Mathlib.Nat.{add-zero, add-assoc}
 use native.Mathlib.Omega.{arith}
@@ -9,9 +9,10 @@ use lib.Seq.{length-take-le, take-all, take-suc, take-suc-set}
 use Rattle.io.specs.Counts.{Counts}
 use Rattle.io.specs.Digits.{Fewest}
 use Rattle.io.specs.Digits.{digits as Digits·digits}
-use Rattle.theory.specs.Lines.{number-and}
-use Rattle.lines.specs.Output.{Put}
-use Rattle.lines.proofs.Decimal.{decimal-digits, twenty-digits}
+use Rattle.theory.specs.Refusal.{Refusal}
+use Rattle.theory.specs.Lines.{decimal, number-and, space, newline, refusal-line}
+use Rattle.lines.specs.Output.{Put, line-room}
+use Rattle.lines.proofs.Decimal.{decimal-digits, decimal-short}
 
 pub put-none : (block : List ℕ) (used : ℕ) → Put [] block used block (used + 0)
 put-none block used = record {
@@ -54,24 +55,40 @@ pub put-all : (bytes : List ℕ) (i : ℕ) {used used′ : ℕ} {before after : 
 put-all bytes i {used} {used′} {before} {after} l p = subst (λ (text : List ℕ). Put text before used after used′) (take-all i bytes l) p
 
 -- A number and a byte, where the digits are the fewest that hold the number.
-pub record Numbered (before : List ℕ) (used : ℕ) (between : List ℕ) (at n behind : ℕ) : Type 0 where
-  pub inside : at < length between
-  pub put : Put (number-and n behind) before used (set between at behind) (at + 1)
-  pub short : at + 1 ≤ used + 21
+pub number-text : (n k : ℕ) (digits : List ℕ) → Fewest 10 1 n k → take k digits ≡ Digits·digits 10 k n → take k digits ≡ decimal n
+number-text n k digits f d = d ∙ decimal-digits n k f
 
-pub numbered : (digits : List ℕ) (k n behind : ℕ) {before between : List ℕ} {used at : ℕ} → n < 2 ^ 64 → k ≤ length digits
-    → Fewest 10 1 n k → take k digits ≡ Digits·digits 10 k n → used + 21 ≤ length before → Put (take k digits) before used between at
-    → Numbered before used between at n behind
-numbered digits k n behind {before} {between} {used} {at} e l f d r p = record {
+-- The byte after a number has room, and makes it whole.
+pub record Numbered (before : List ℕ) (used : ℕ) (between : List ℕ) (at n after : ℕ) : Type 0 where
+  pub inside : at < length between
+  pub put : Put (number-and n after) before used (set between at after) (at + 1)
+
+pub numbered : {n after : ℕ} {text before between : List ℕ} {used at : ℕ} → text ≡ decimal n → used + length (number-and n after) ≤ length before
+    → Put text before used between at → Numbered before used between at n after
+numbered {n} {after} {text} {before} {between} {used} {at} e r p = record {
   inside = inside;
-  put = subst (λ (text : List ℕ). Put (text ++ (behind ∷ [])) before used (set between at behind) (at + 1)) (d ∙ decimal-digits n k f)
-      (put-byte behind p inside);
-  short = let c = p .count in let t = length-take-le k digits l in let m = twenty-digits n k e f in omega arith;
+  put = subst (λ (t : List ℕ). Put (t ++ (after ∷ [])) before used (set between at after) (at + 1)) e (put-byte after p inside);
 }
   where
     inside : at < length between
-    inside = let c = p .count in let s = p .same-length in let t = length-take-le k digits l in let m = twenty-digits n k e f in omega arith
+    inside =
+        let c = p .count in
+        let s = p .same-length in
+        let t = ap length e in
+        let m = length-append (decimal n) (after ∷ []) in
+        omega arith
 
 -- What lending the beginning of a block asks.
 pub counts-of : (n : ℕ) (block : List ℕ) → n ≤ length block → Counts n block
 counts-of n block l = (l, sym (length-take-le n block l))
+
+-- ---- A refusal's line
+
+pub number-short : (n after : ℕ) → n < 2 ^ 64 → length (number-and n after) ≤ 21
+number-short n after l = let d = decimal-short n 19 (omega arith) in let m = length-append (decimal n) (after ∷ []) in omega arith
+
+pub refusal-short : (r : Refusal) → r .number < 2 ^ 64 → r .place < 2 ^ 64 → length (refusal-line r) ≤ line-room
+refusal-short r l m =
+    let a = number-short (r .number) space l in
+    let b = number-short (r .place) newline m in
+    simp length-append (omega (arith, simp length-append at a, simp length-append at b))

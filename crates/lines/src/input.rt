@@ -1,9 +1,9 @@
 // Lines of standard input. 01: they end at a newline; "A last line without newline counts if it has a byte".
 
 ghost use mathlib.Core.Path.{_≡_};
-ghost use Rattle.lines.specs.Input.{Inside, Nexts, Took};
+ghost use Rattle.lines.specs.Input.{Inside, Nexts, last, Took, Passes};
 
-// The bytes of the lent block from `at` to `end` are read and not yet taken. A block of one byte takes nothing behind a newline.
+// The bytes of the lent block from `at` to `end` are read and not yet taken. A block of one byte takes nothing after a newline.
 pub struct Input {
     pub at: usize,
     pub end: usize,
@@ -12,6 +12,7 @@ pub struct Input {
 enum Next {
     Byte { byte: u8, input: Input },
     End,
+    Failed,
 }
 
 pub enum Line {
@@ -19,6 +20,12 @@ pub enum Line {
     Ended { length: usize, input: Input },
     // The column is full and no newline has come yet.
     Full { input: Input },
+    Failed,
+}
+
+pub enum Passed {
+    To { input: Input },
+    Failed,
 }
 
 impl Input {
@@ -31,7 +38,7 @@ impl Input {
 
 fn take_byte(block: &mut [u8], input: Input) -> Next
     requires { ⌜ Inside input (now block) ⌝ }
-    ensures { λ r. ⌜ Nexts r (now (block .exit)) ⌝ }
+    ensures { λ r. ⌜ Nexts (now (block .entry)) input r (now (block .exit)) ⌝ }
 {
     let at = input.at;
     if at < input.end {
@@ -43,7 +50,10 @@ fn take_byte(block: &mut [u8], input: Input) -> Next
             },
         };
     }
-    let got = libc::read(0, block);
+    let got = libc::read(libc::STDIN_FILENO, block);
+    if got < 0 {
+        return Next::Failed;
+    }
     let end = io::count(got, block);
     if end == 0 {
         return Next::End;
@@ -57,51 +67,56 @@ fn take_byte(block: &mut [u8], input: Input) -> Next
 // The next line, as far as the column holds it; its newline is taken and not stored.
 pub fn take_line(block: &mut [u8], input: Input, column: &mut [u8]) -> Line
     requires { ⌜ Inside input (now block) ⌝ }
-    ensures { λ r. ⌜ Took r (now (block .exit)) (now (column .exit)) ⌝ }
+    ensures { λ r. ⌜ Took (now (block .entry)) input r (now (block .exit)) (now (column .exit)) ⌝ }
 {
     let mut input = input;
     let mut length = 0;
     while length < column.len() {
-        let Next::Byte {
-            byte,
-            input: behind,
-        } = take_byte(block, input)
-        else {
-            if length == 0 {
-                return Line::None;
+        match take_byte(block, input) {
+            Next::Failed => return Line::Failed,
+            Next::End => return last_line(length, input),
+            Next::Byte { byte, input: after } => {
+                input = after;
+                if byte == b'\n' {
+                    return Line::Ended { length, input };
+                }
+                column[length] = byte;
+                length += 1;
             }
-            return Line::Ended { length, input };
-        };
-        input = behind;
-        if byte == b'\n' {
-            return Line::Ended { length, input };
         }
-        column[length] = byte;
-        length += 1;
     }
     Line::Full { input }
 }
 
-// Behind the rest of a line. A proved loop has to end, and nothing says that a line does: the turns are more than a run has.
-pub fn rest(block: &mut [u8], input: Input) -> Input
+// 01: "no line is the empty text".
+fn last_line(length: usize, input: Input) -> Line
+    ensures { λ r. ⌜ r ≡ last length input ⌝ }
+{
+    if length == 0 {
+        return Line::None;
+    }
+    Line::Ended { length, input }
+}
+
+// After the rest of a line. A proved loop has to end, and nothing says that a line does: the turns are more than a run has.
+pub fn rest(block: &mut [u8], input: Input) -> Passed
     requires { ⌜ Inside input (now block) ⌝ }
-    ensures { λ r. ⌜ Inside r (now (block .exit)) ⌝ }
+    ensures { λ r. ⌜ Passes (now (block .entry)) input r (now (block .exit)) ⌝ }
 {
     let mut input = input;
     let mut turns = u64::MAX;
     while turns > 0 {
-        let Next::Byte {
-            byte,
-            input: behind,
-        } = take_byte(block, input)
-        else {
-            return input;
-        };
-        input = behind;
-        if byte == b'\n' {
-            return input;
+        match take_byte(block, input) {
+            Next::Failed => return Passed::Failed,
+            Next::End => return Passed::To { input },
+            Next::Byte { byte, input: after } => {
+                input = after;
+                if byte == b'\n' {
+                    return Passed::To { input };
+                }
+                turns -= 1;
+            }
         }
-        turns -= 1;
     }
-    input
+    Passed::To { input }
 }

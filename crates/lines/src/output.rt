@@ -1,14 +1,16 @@
-// Text put together in a lent block, written out in one call when it is full.
+// Text put together in a lent block, and written out.
 
 ghost use mathlib.Core.Path.{_≡_};
-ghost use mathlib.Core.Logic.{_⊎_};
 ghost use Prim.Native.Nat.{_+_, _≤_};
 ghost use lib.ListN.{length};
 ghost use Rattle.theory.specs.Refusal.{refusal};
 ghost use Rattle.theory.specs.Lines.{number-and, refusal-line};
-ghost use Rattle.lines.specs.Output.{Put};
+ghost use Rattle.lines.specs.Output.{Put, line-room, Wrote, Cleared};
 
-// Bytes behind the used ones.
+// No line of the records program and no refusal is longer.
+pub const LINE: usize = 64;
+
+// Bytes after the used ones.
 pub fn word(block: &mut [u8], used: usize, bytes: &[u8]) -> usize
     requires { ⌜ used + length (now bytes) ≤ length (now block) ⌝ }
     ensures { λ r. ⌜ Put (now (bytes .entry)) (now (block .entry)) used (now (block .exit)) r ⌝ }
@@ -21,38 +23,73 @@ pub fn word(block: &mut [u8], used: usize, bytes: &[u8]) -> usize
     used + i
 }
 
-// A number in decimal and one byte, behind the used ones; 64 bits have at most 20 digits.
-pub fn number(block: &mut [u8], used: usize, n: usize, behind: u8) -> usize
-    requires { ⌜ used + 21 ≤ length (now block) ⌝ }
-    ensures { λ r. ⌜ Put (number-and n behind) (now (block .entry)) used (now (block .exit)) r ⌝ }
-    ensures { λ r. ⌜ r ≤ used + 21 ⌝ }
+// A number in decimal and one byte, after the used ones.
+pub fn number(block: &mut [u8], used: usize, n: usize, after: u8) -> usize
+    requires { ⌜ used + length (number-and n after) ≤ length (now block) ⌝ }
+    ensures { λ r. ⌜ Put (number-and n after) (now (block .entry)) used (now (block .exit)) r ⌝ }
 {
+    // 64 bits have at most 20 digits.
     let mut digits = [0u8; 20];
     let k = io::decimal(n as u64, &mut digits);
     let at = word(block, used, &digits[..k]);
-    block[at] = behind;
+    block[at] = after;
     at + 1
 }
 
 // 01: "Both print `refused R P` (number, place) on a refusal".
 pub fn refused(block: &mut [u8], used: usize, number: u8, place: usize) -> usize
-    requires { ⌜ used + 64 ≤ length (now block) ⌝ }
+    requires { ⌜ used + line-room ≤ length (now block) ⌝ }
     ensures { λ r. ⌜ Put (refusal-line (refusal number place)) (now (block .entry)) used (now (block .exit)) r ⌝ }
-    ensures { λ r. ⌜ r ≤ used + 64 ⌝ }
+    ensures { λ r. ⌜ r ≤ used + line-room ⌝ }
 {
     let said = word(block, used, b"refused ");
     let numbered = self::number(block, said, number as usize, b' ');
     self::number(block, numbered, place, b'\n')
 }
 
-// Writes the block out where a line might not fit behind what it holds, or where the caller would wait. How much of it is used then.
-pub fn with_room(block: &[u8], used: usize, waits: bool) -> usize
-    requires { ⌜ (used ≤ length (now block)) × (64 ≤ length (now block)) ⌝ }
-    ensures { λ r. ⌜ (r + 64 ≤ length (now (block .entry))) × ((r ≡ used) ⊎ (r ≡ 0)) ⌝ }
+pub enum Written {
+    All { count: usize },
+    Failed,
+}
+
+// Whatever a program answers goes out by this one call.
+pub fn write(bytes: &[u8]) -> Written
+    ensures { λ r. ⌜ Wrote (length (now (bytes .entry))) r ⌝ }
 {
-    if waits | (block.len() - used < 64) {
-        io::write_all(1, &block[..used]);
-        return 0;
+    if io::write_all(libc::STDOUT_FILENO, bytes) {
+        Written::All { count: bytes.len() }
+    } else {
+        Written::Failed
     }
-    used
+}
+
+pub enum Room {
+    Left { used: usize },
+    // So many bytes were written, and none is used now.
+    Cleared { count: usize },
+    Failed,
+}
+
+// Writes the block out where a line might not fit after what it holds, or where the caller would wait.
+pub fn with_room(block: &[u8], used: usize, waits: bool) -> Room
+    requires { ⌜ used ≤ length (now block) ⌝ }
+    ensures { λ r. ⌜ Cleared (length (now (block .entry))) used waits r ⌝ }
+{
+    if waits | (block.len() - used < LINE) {
+        match write(&block[..used]) {
+            Written::All { count } => Room::Cleared { count },
+            Written::Failed => Room::Failed,
+        }
+    } else {
+        Room::Left { used }
+    }
+}
+
+// A program has no exit status: a read or a write that fails is told on standard error.
+pub fn tell_read_failed() {
+    io::write_all(libc::STDERR_FILENO, b"gumpaleri 0.2.0: read failed\n");
+}
+
+pub fn tell_write_failed() {
+    io::write_all(libc::STDERR_FILENO, b"gumpaleri 0.2.0: write failed\n");
 }

@@ -8,24 +8,25 @@ use mathlib.Core.Logic.{inl, inr}
 use mathlib.Core.List.{List, [], _∷_}
 use mathlib.Core.Option.{Option, none, some}
 use lib.ListN.{length, getD}
+use Rattle.theory.specs.Kind
 use Rattle.theory.specs.Expression.{Expression, star, entries}
 use Rattle.theory.specs.Refusal.{refusal, not-grammar}
-use Rattle.theory.specs.Table.{Table, Row}
+use Rattle.theory.specs.Table.{Table, Row, entry}
 use Rattle.theory.specs.Grammar.{Text, refused, rows, byte-open, byte-*, makes-entry}
-use Rattle.theory.specs.Scan.{token, Stand, before, behind, next, open-at, finish}
-use Rattle.theory.proofs.Scan.{at-end, at-broken, at-many, at-entry, behind-star}
+use Rattle.theory.specs.Scan.{token, Stand, before, after, next, open-at, finish}
+use Rattle.theory.proofs.Scan.{at-end, at-broken, at-many, at-entry, after-star}
 use Rattle.theory.proofs.Rows.Trees.{rows-length, entries-positive}
 use Rattle.columns.specs.declared.Cursor.{Cursor}
 use Rattle.reader.specs.declared.entries.Found.{Found}
 use Rattle.reader.specs.declared.entries.Found.the-variants.{Value, Refused}
-use Rattle.reader.specs.Found.{laid, Entry, leaf-of, scan-at, Start, May-begin, Behind, Answered}
+use Rattle.reader.specs.Found.{laid, Entry, leaf-of, scan-at, Start, May-begin, After, Answered}
 use Rattle.reader.proofs.Leaf.{leaf-next, leaf-none, leaf-makes, leaf-entries}
 use Rattle.reader.proofs.Laid.{laid-append}
 use Rattle.reader.proofs.Stepped.{Stepped, byte-before}
 
 -- The row of a star over the last row made.
 abbrev pub star-row : ℕ → Row
-star-row made = record { kind = 6; left = made - 1; right = 0 }
+star-row made = entry Kind.star (made - 1) 0
 
 module _ (room : ℕ) (text : Text) where
   -- ---- The text's end, and a leaf
@@ -49,7 +50,7 @@ module _ (room : ℕ) (text : Text) where
     pub leaf-refused : (byte ≡ byte-open → ⊥) → leaf-of (token byte) ≡ none → Answered room text s (Refused not-grammar (s .at)) (s .columns)
     leaf-refused n e fs d =
         at-broken room text (s .at) (s .made) (before fs) (i .inside)
-        (leaf-none fs (getD text (s .at) 0) (leaf-here e) (λ z. n (sym (i .here) ∙ z)) (λ z. b .no-zero (sym d ∙ z)))
+        (leaf-none fs (getD text (s .at) 0) (leaf-here e) (λ z. n (sym (i .here) ∙ z)) (λ z. b .no-∅ (sym d ∙ z)))
 
     pub leaf-made : (w : Row) (x : Expression) → leaf-of (token byte) ≡ some x → rows (s .made) x ≡ w ∷ [] → (r : Found) (t′ : Table)
         → Entry room (s .made) cursor (w ∷ []) (s .columns) r t′ → Answered room text s r t′
@@ -64,8 +65,8 @@ module _ (room : ℕ) (text : Text) where
         record {
           expression = x;
           reads = λ fs d. rw (next-at, more)
-              (at-entry room text (s .at) (s .made) (before fs) (i .inside) (behind x fs) (leaf-next fs (token (getD text (s .at) 0)) x (leaf-here e)) (omega arith)
-              (leaf-makes (getD text (s .at) 0) x (leaf-here e)) (h .0));
+              (at-entry room text (s .at) (s .made) (before fs) (i .inside) (after x fs) (leaf-next fs (token (getD text (s .at) 0)) x (leaf-here e))
+              (omega arith) (leaf-makes (getD text (s .at) 0) x (leaf-here e)) (h .0));
           shallow = b .shallow;
           onward = omega arith;
           within = omega arith;
@@ -75,8 +76,8 @@ module _ (room : ℕ) (text : Text) where
         }
     leaf-made w x e q (Refused number place) t′ h = λ fs d.
         rw (h .1, h .2 ∙ byte-before i)
-        (at-many room text (s .at) (s .made) (before fs) (i .inside) (behind x fs) (leaf-next fs (token (getD text (s .at) 0)) x (leaf-here e)) (omega (arith, b .shallow))
-        (leaf-makes (getD text (s .at) 0) x (leaf-here e)) (h .0))
+        (at-many room text (s .at) (s .made) (before fs) (i .inside) (after x fs) (leaf-next fs (token (getD text (s .at) 0)) x (leaf-here e))
+        (omega (arith, b .shallow)) (leaf-makes (getD text (s .at) 0) x (leaf-here e)) (h .0))
 
   -- ---- A star
 
@@ -85,9 +86,9 @@ module _ (room : ℕ) (text : Text) where
   unfolding rows
   star-laid base x t =
       let last : base + entries x - 1 ≡ base + pred (entries x) = omega (arith, entries-positive x) in
-      sym (laid-append base (rows base x) (record { kind = 6; left = base + pred (entries x); right = 0 } ∷ []) t ∙ rw (rows-length, last))
+      sym (laid-append base (rows base x) (entry Kind.star (base + pred (entries x)) 0 ∷ []) t ∙ rw (rows-length, last))
 
-  pub star-answers : (s : Start) (at made : ℕ) (t : Table) → Behind room text s at made t → (byte : ℕ) (cursor : Cursor)
+  pub star-answers : (s : Start) (at made : ℕ) (t : Table) → After room text s at made t → (byte : ℕ) (cursor : Cursor)
       → Stepped text at byte cursor → byte ≡ byte-* → (r : Found) (t′ : Table)
       → Entry room made cursor (star-row made ∷ []) t r t′ → Answered room text s r t′
   unfolding open-at entries makes-entry
@@ -98,7 +99,9 @@ module _ (room : ℕ) (text : Text) where
       let more = h .1 in
       record {
         expression = star (x .expression);
-        reads = λ fs d. x .reads fs d ∙ rw (next-at, more) (at-entry room text at made (behind (x .expression) fs) l (behind (star (x .expression)) fs) (behind-star (x .expression) fs (getD text at 0) (i .here ∙ b)) (omega (arith, x .shallow)) (rw (i .here ∙ b)) (h .0));
+        reads = λ fs d. x .reads fs d ∙ rw (next-at, more)
+            (at-entry room text at made (after (x .expression) fs) l (after (star (x .expression)) fs)
+            (after-star (x .expression) fs (getD text at 0) (i .here ∙ b)) (omega (arith, x .shallow)) (rw (i .here ∙ b)) (h .0));
         shallow = x .shallow;
         onward = omega (arith, x .onward);
         within = omega arith;
@@ -107,7 +110,9 @@ module _ (room : ℕ) (text : Text) where
         laid-out = h .3 ∙ rw (x .laid-out, x .counted) (star-laid (s .made) (x .expression) (s .columns));
       }
   star-answers s at made t x byte cursor i b (Refused number place) t′ h = λ fs d.
-      x .reads fs d ∙ rw (h .1, h .2 ∙ byte-before i) (at-many room text at made (behind (x .expression) fs) (i .inside) (behind (star (x .expression)) fs) (behind-star (x .expression) fs (getD text at 0) (i .here ∙ b)) (omega (arith, x .shallow)) (rw (i .here ∙ b)) (h .0))
+      x .reads fs d ∙ rw (h .1, h .2 ∙ byte-before i)
+      (at-many room text at made (after (x .expression) fs) (i .inside) (after (star (x .expression)) fs)
+      (after-star (x .expression) fs (getD text at 0) (i .here ∙ b)) (omega (arith, x .shallow)) (rw (i .here ∙ b)) (h .0))
 
-  pub behind-positive : {s : Start} {at made : ℕ} {t : Table} → Behind room text s at made t → 0 < made
-  behind-positive x = omega (arith, x .counted, entries-positive (x .expression))
+  pub after-positive : {s : Start} {at made : ℕ} {t : Table} → After room text s at made t → 0 < made
+  after-positive x = omega (arith, x .counted, entries-positive (x .expression))

@@ -9,17 +9,19 @@ use mathlib.Core.Bool.{false}
 use mathlib.Core.List.{List, [], _∷_, _++_}
 use lib.ListN.{length, getD, length-append}
 use lib.Dec.{lit≤}
+use Rattle.theory.specs.Kind
 use Rattle.theory.specs.Expression.{Expression, Sign, union, concatenation, shuffle, binary, entries}
+use Rattle.theory.specs.Limit.{most-open}
 use Rattle.theory.specs.Refusal.{refusal, not-grammar, too-deep, too-many-entries}
-use Rattle.theory.specs.Table.{Table, Row, kind-of-sign}
+use Rattle.theory.specs.Table.{Table, Row, entry, kind-of-sign}
 use Rattle.theory.specs.Grammar.{Text, refused, rows, sign-byte, byte-open, byte-close, byte-*, makes-entry}
-use Rattle.theory.specs.Scan.{Frame, opened, signed, Stand, before, behind, open-at, finish}
-use Rattle.theory.proofs.Scan.{at-deep, at-many, at-entry, at-mark, before-opening, behind-sign, behind-close, behind-unsigned, behind-unclosed}
+use Rattle.theory.specs.Scan.{Frame, opened, signed, Stand, before, after, open-at, finish}
+use Rattle.theory.proofs.Scan.{at-deep, at-many, at-entry, at-mark, before-opening, after-sign, after-close, after-unsigned, after-unclosed}
 use Rattle.theory.proofs.Rows.Trees.{rows-length, entries-positive}
 use Rattle.columns.specs.declared.Cursor.{Cursor}
 use Rattle.reader.specs.declared.entries.Found.{Found}
 use Rattle.reader.specs.declared.entries.Found.the-variants.{Value, Refused}
-use Rattle.reader.specs.Found.{laid, Sign-at, Close-at, scan-at, Start, start, May-begin, Behind, Answered}
+use Rattle.reader.specs.Found.{laid, Sign-at, Close-at, scan-at, Start, start, May-begin, After, Answered}
 use Rattle.reader.proofs.Laid.{laid-append}
 use Rattle.reader.proofs.Stepped.{Stepped}
 use Rattle.reader.proofs.Answers.{stuck-here}
@@ -33,18 +35,18 @@ Comes room text s at made stand =
 
 pub record Inside (room : ℕ) (text : Text) (s : Start) (at : ℕ) : Type 0 where
   pub comes : Comes room text s at (s .made) (λ fs. before (opened ∷ fs))
-  pub shallow : s .depth < 64
+  pub shallow : s .depth < most-open
   pub onward : s .at < at
   pub within : at ≤ length text
 
 module _ {room : ℕ} {text : Text} {s : Start} (b : May-begin room text s) {byte : ℕ} {cursor : Cursor} (i : Stepped text (s .at) byte cursor)
     (o : byte ≡ byte-open) where
-  pub deep-answers : 64 ≤ s .depth → Answered room text s (Refused too-deep (s .at)) (s .columns)
+  pub deep-answers : most-open ≤ s .depth → Answered room text s (Refused too-deep (s .at)) (s .columns)
   unfolding open-at
   deep-answers d fs e =
       at-deep room text (s .at) (s .made) (before fs) (i .inside) (before (opened ∷ fs)) (before-opening fs (getD text (s .at) 0) (i .here ∙ o)) (omega arith)
 
-  pub inside : s .depth < 64 → Inside room text s (cursor .at)
+  pub inside : s .depth < most-open → Inside room text s (cursor .at)
   unfolding open-at makes-entry
   inside d =
       let next-at = i .next in
@@ -68,7 +70,7 @@ within-pair s at made t = start (s .depth + 1) at made t
 pub record Half (room : ℕ) (text : Text) (s : Start) (stand : Expression → List Frame → Stand) (at made : ℕ) (t : Table) : Type 0 where
   pub expression : Expression
   pub comes : Comes room text s at made (stand expression)
-  pub shallow : s .depth < 64
+  pub shallow : s .depth < most-open
   pub onward : s .at < at
   pub within : at ≤ length text
   pub counted : made ≡ s .made + entries expression
@@ -76,7 +78,7 @@ pub record Half (room : ℕ) (text : Text) (s : Start) (stand : Expression → L
   pub laid-out : t ≡ laid (s .made) (rows (s .made) expression) (s .columns)
 
 pub record Left (room : ℕ) (text : Text) (s : Start) (at made : ℕ) (t : Table) : Type 0 where
-  pub half : Half room text s (λ x fs. behind x (opened ∷ fs)) at made t
+  pub half : Half room text s (λ x fs. after x (opened ∷ fs)) at made t
   pub unstarred : getD text at 0 ≡ byte-* → ⊥
 
 module _ {room : ℕ} {text : Text} {s : Start} {at₀ : ℕ} (i : Inside room text s at₀) where
@@ -86,7 +88,7 @@ module _ {room : ℕ} {text : Text} {s : Start} {at₀ : ℕ} (i : Inside room t
       subst (λ (r′ : Found). Answered room text s r′ t) (sym q)
       (λ fs e. i .comes fs e ∙ subst (λ (r′ : Found). Answered room text (within-pair s at₀ (s .made) (s .columns)) r′ t) q h (opened ∷ fs) (omega arith))
 
-  pub left : {at made : ℕ} {t : Table} → Behind room text (within-pair s at₀ (s .made) (s .columns)) at made t → (getD text at 0 ≡ byte-* → ⊥)
+  pub left : {at made : ℕ} {t : Table} → After room text (within-pair s at₀ (s .made) (s .columns)) at made t → (getD text at 0 ≡ byte-* → ⊥)
       → Left room text s at made t
   left x n =
       record {
@@ -126,8 +128,8 @@ module _ {room : ℕ} {text : Text} {s : Start} {at made : ℕ} {t : Table} (x :
       (λ fs e.
       y .comes fs e
       ∙ rw (k .0, k .1)
-      (stuck-here room text at made (behind (y .expression) (opened ∷ fs)) (y .within)
-      (λ l. behind-unsigned (y .expression) fs (getD text at 0) (x .unstarred) (λ g. k .2 g l)) refl))
+      (stuck-here room text at made (after (y .expression) (opened ∷ fs)) (y .within)
+      (λ l. after-unsigned (y .expression) fs (getD text at 0) (x .unstarred) (λ g. k .2 g l)) refl))
 
   pub signed-on : {kind : ℕ} {cursor : Cursor} → Sign-at text at (Value kind cursor) → Signed room text s kind (cursor .at) made t
   unfolding open-at
@@ -145,8 +147,8 @@ module _ {room : ℕ} {text : Text} {s : Start} {at made : ℕ} {t : Table} (x :
           comes = λ fs e.
               y .comes fs e
               ∙ rw next-at
-              (at-mark room text at made (behind (y .expression) (opened ∷ fs)) (h .1) (before (signed (y .expression) (h .0) ∷ fs))
-              (behind-sign (y .expression) (h .0) fs (getD text at 0) (h .2)) (omega arith) (rw (h .2) (sign-makes (h .0))) (y .fits));
+              (at-mark room text at made (after (y .expression) (opened ∷ fs)) (h .1) (before (signed (y .expression) (h .0) ∷ fs))
+              (after-sign (y .expression) (h .0) fs (getD text at 0) (h .2)) (omega arith) (rw (h .2) (sign-makes (h .0))) (y .fits));
           shallow = y .shallow;
           onward = omega arith;
           within = omega arith;
@@ -156,11 +158,11 @@ module _ {room : ℕ} {text : Text} {s : Start} {at made : ℕ} {t : Table} (x :
         };
       }
 
-pub signed-kind : {room : ℕ} {text : Text} {s : Start} {kind at made : ℕ} {t : Table} → Signed room text s kind at made t → kind ≤ 5
+pub signed-kind : {room : ℕ} {text : Text} {s : Start} {kind at made : ℕ} {t : Table} → Signed room text s kind at made t → kind ≤ Kind.last
 unfolding kind-of-sign
 signed-kind x = rw (x .kind-is) (small (x .sign))
   where
-    small : (g : Sign) → kind-of-sign g ≤ 5
+    small : (g : Sign) → kind-of-sign g ≤ Kind.last
     small union = lit≤ tt
     small concatenation = lit≤ tt
     small shuffle = lit≤ tt
@@ -169,7 +171,7 @@ signed-kind x = rw (x .kind-is) (small (x .sign))
 
 -- The row of a sign over the last rows of its two parts.
 abbrev pub pair-row : (kind first second : ℕ) → Row
-pair-row kind first second = record { kind = kind; left = first - 1; right = second - 1 }
+pair-row kind first second = entry kind (first - 1) (second - 1)
 
 pair-laid : (base : ℕ) (g : Sign) (x y : Expression) (t : Table)
     → laid (base + entries x + entries y) (pair-row (kind-of-sign g) (base + entries x) (base + entries x + entries y) ∷ [])
@@ -179,7 +181,7 @@ unfolding rows
 pair-laid base g x y t =
     let lefts : base + entries x - 1 ≡ base + pred (entries x) = omega (arith, entries-positive x) in
     let rights : base + entries x + entries y - 1 ≡ base + entries x + pred (entries y) = omega (arith, entries-positive y) in
-    let w : Row = record { kind = kind-of-sign g; left = base + pred (entries x); right = base + entries x + pred (entries y) } in
+    let w = entry (kind-of-sign g) (base + pred (entries x)) (base + entries x + pred (entries y)) in
     let xy = rows base x ++ rows (base + entries x) y in
     sym (laid-append base xy (w ∷ []) t
     ∙ ap (laid (base + length xy) (w ∷ [])) (laid-append base (rows base x) (rows (base + entries x) y) t)
@@ -194,8 +196,8 @@ module _ {room : ℕ} {text : Text} {s : Start} {kind at made : ℕ} {t : Table}
       x .half .comes fs e
       ∙ subst (λ (r′ : Found). Answered room text (within-pair s at made t) r′ t′) q h (signed (x .half .expression) (x .sign) ∷ fs) (omega arith))
 
-  module _ {at₂ made₂ : ℕ} {t₂ : Table} (y : Behind room text (within-pair s at made t) at₂ made₂ t₂) (n : getD text at₂ 0 ≡ byte-* → ⊥) where
-    right-comes : Comes room text s at₂ made₂ (λ fs. behind (y .expression) (signed (x .half .expression) (x .sign) ∷ fs))
+  module _ {at₂ made₂ : ℕ} {t₂ : Table} (y : After room text (within-pair s at made t) at₂ made₂ t₂) (n : getD text at₂ 0 ≡ byte-* → ⊥) where
+    right-comes : Comes room text s at₂ made₂ (λ fs. after (y .expression) (signed (x .half .expression) (x .sign) ∷ fs))
     right-comes fs e = x .half .comes fs e ∙ y .reads (signed (x .half .expression) (x .sign) ∷ fs) (omega arith)
 
     close-refused : (number place : ℕ) (t₃ : Table) → Close-at text room at₂ made₂ (pair-row kind made made₂) t₂ (Refused number place) t₃
@@ -204,18 +206,19 @@ module _ {room : ℕ} {text : Text} {s : Start} {kind at made : ℕ} {t : Table}
     close-refused number place t₃ h fs e = right-comes fs e ∙ rw (h .0) (go (h .1))
       where
         c : Stand
-        c = behind (y .expression) (signed (x .half .expression) (x .sign) ∷ fs)
+        c = after (y .expression) (signed (x .half .expression) (x .sign) ∷ fs)
 
         go : ((number ≡ not-grammar) × (at₂ < length text → getD text at₂ 0 ≡ byte-close → ⊥))
             ⊎ ((number ≡ too-many-entries) × (at₂ < length text) × (getD text at₂ 0 ≡ byte-close) × (room ≤ made₂))
             → scan-at room text at₂ made₂ c ≡ refused (refusal number at₂)
         go (inl k) =
             rw (k .0)
-            (stuck-here room text at₂ made₂ c (y .within) (λ q. behind-unclosed (x .half .expression) (y .expression) (x .sign) fs (getD text at₂ 0) n (k .1 q)) refl)
+            (stuck-here room text at₂ made₂ c (y .within)
+            (λ q. after-unclosed (x .half .expression) (y .expression) (x .sign) fs (getD text at₂ 0) n (k .1 q)) refl)
         go (inr k) =
             rw (k .0)
-            (at-many room text at₂ made₂ c (k .1) (behind (binary (x .sign) (x .half .expression) (y .expression)) fs)
-            (behind-close (x .half .expression) (y .expression) (x .sign) fs (getD text at₂ 0) (k .2)) (omega (arith, x .half .shallow)) (rw (k .2)) (k .3))
+            (at-many room text at₂ made₂ c (k .1) (after (binary (x .sign) (x .half .expression) (y .expression)) fs)
+            (after-close (x .half .expression) (y .expression) (x .sign) fs (getD text at₂ 0) (k .2)) (omega (arith, x .half .shallow)) (rw (k .2)) (k .3))
 
     pub pair-answers : (r : Found) (t₃ : Table) → Close-at text room at₂ made₂ (pair-row kind made made₂) t₂ r t₃ → Answered room text s r t₃
     unfolding open-at entries makes-entry
@@ -225,9 +228,9 @@ module _ {room : ℕ} {text : Text} {s : Start} {kind at made : ℕ} {t : Table}
           reads = λ fs e.
               right-comes fs e
               ∙ rw (h .4, h .3)
-              (at-entry room text at₂ made₂ (behind (y .expression) (signed (x .half .expression) (x .sign) ∷ fs)) (h .0)
-              (behind (binary (x .sign) (x .half .expression) (y .expression)) fs)
-              (behind-close (x .half .expression) (y .expression) (x .sign) fs (getD text at₂ 0) (h .1)) (omega (arith, x .half .shallow)) (rw (h .1)) (h .2));
+              (at-entry room text at₂ made₂ (after (y .expression) (signed (x .half .expression) (x .sign) ∷ fs)) (h .0)
+              (after (binary (x .sign) (x .half .expression) (y .expression)) fs)
+              (after-close (x .half .expression) (y .expression) (x .sign) fs (getD text at₂ 0) (h .1)) (omega (arith, x .half .shallow)) (rw (h .1)) (h .2));
           shallow = omega (arith, x .half .shallow);
           onward = omega (arith, h .4, x .half .onward, y .onward);
           within = omega (arith, h .4, h .0);
@@ -235,6 +238,7 @@ module _ {room : ℕ} {text : Text} {s : Start} {kind at made : ℕ} {t : Table}
           fits = omega (arith, h .3, h .2);
           laid-out =
               h .5
-              ∙ rw (y .laid-out, y .counted, x .half .laid-out, x .half .counted, x .kind-is) (pair-laid (s .made) (x .sign) (x .half .expression) (y .expression) (s .columns));
+              ∙ rw (y .laid-out, y .counted, x .half .laid-out, x .half .counted, x .kind-is)
+              (pair-laid (s .made) (x .sign) (x .half .expression) (y .expression) (s .columns));
         }
     pair-answers (Refused number place) t₃ h = close-refused number place t₃ h

@@ -1,4 +1,4 @@
--- What a cursor's step says of the text: at the end, or the byte that stands there. Assumes nothing.
+-- What a cursor's step says of the text: the end, or the byte that stands there.
 use Prim.Native.Nat.{ℕ, _+_, _-_, _≤_, _<_}
 use native.Mathlib.Omega.{arith}
 use mathlib.Core.Path.{_≡_, refl, ap, _∙_}
@@ -24,38 +24,37 @@ pub record Stepped (text : List ℕ) (at byte : ℕ) (cursor : Cursor) : Type 0 
   pub here : getD text at 0 ≡ byte
   pub next : cursor .at ≡ at + 1
 
--- The byte before the cursor behind a place is the place's.
+-- The byte before the cursor after a place is the place's.
 pub byte-before : {text : List ℕ} {at byte : ℕ} {cursor : Cursor} → Stepped text at byte cursor → cursor .at - 1 ≡ at
 byte-before s = omega (arith, s .next)
 
-module _ (text : List ℕ) (at : ℕ) (r : Step) (h : r ≡ step-at text at) where
-  pub step-end : r ≡ End → length text ≤ at
-  step-end e = go (ltb at (length text)) refl
-    where
-      go : (b : Bool) → ltb at (length text) ≡ b → length text ≤ at
-      go true p = let z : _≡_ {A = ℕ} 0 1 = cc in absurd (omega arith)
-      go false p = ltb-false at (length text) p
+pub step-end : (text : List ℕ) {at : ℕ} {r : Step} → r ≡ step-at text at → r ≡ End → length text ≤ at
+step-end text {at} h e = go (ltb at (length text)) refl
+  where
+    go : (b : Bool) → ltb at (length text) ≡ b → length text ≤ at
+    go true p = let z : _≡_ {A = ℕ} 0 1 = cc in absurd (omega arith)
+    go false p = ltb-false at (length text) p
 
-  pub step-byte : (byte : ℕ) (cursor : Cursor) → r ≡ Byte byte cursor → Stepped text at byte cursor
-  step-byte byte cursor e = go (ltb at (length text)) refl
-    where
-      go : (b : Bool) → ltb at (length text) ≡ b → Stepped text at byte cursor
-      go true p =
-          let same : cursor ≡ record { at = at + 1 } = cc in
-          record { inside = ltb-true at (length text) p; here = cc; next = ap (λ (q : Cursor). q .at) same }
-      go false p = let z : _≡_ {A = ℕ} 0 1 = cc in absurd (omega arith)
+pub step-byte : {text : List ℕ} {at byte : ℕ} {cursor : Cursor} {r : Step} → r ≡ step-at text at → r ≡ Byte byte cursor → Stepped text at byte cursor
+step-byte {text} {at} {byte} {cursor} h e = go (ltb at (length text)) refl
+  where
+    go : (b : Bool) → ltb at (length text) ≡ b → Stepped text at byte cursor
+    go true p =
+        let same : cursor ≡ record { at = at + 1 } = cc in
+        record { inside = ltb-true at (length text) p; here = cc; next = ap (λ (q : Cursor). q .at) same }
+    go false p = let z : _≡_ {A = ℕ} 0 1 = cc in absurd (omega arith)
 
 -- ---- `)` and the signs
 
-pub close-at : (text : List ℕ) (room at made byte : ℕ) (cursor : Cursor) (w : Row) (t : Table) (r : Found) (t′ : Table)
-    → Stepped text at byte cursor → byte ≡ byte-close → Entry room made cursor (w ∷ []) t r t′ → Close-at text room at made w t r t′
-close-at text room at made byte cursor w t (Value made′ cursor′) t′ s e h =
+pub close-at : {text : List ℕ} {at byte : ℕ} {cursor : Cursor} → Stepped text at byte cursor → byte ≡ byte-close
+    → (room made : ℕ) (w : Row) (t : Table) (r : Found) (t′ : Table) → Entry room made cursor (w ∷ []) t r t′ → Close-at text room at made w t r t′
+close-at s e room made w t (Value made′ cursor′) t′ h =
     (s .inside, s .here ∙ e, h .0, h .1, ap (λ (q : Cursor). q .at) (h .2) ∙ s .next, h .3)
-close-at text room at made byte cursor w t (Refused number place) t′ s e h = (h .2 ∙ byte-before s, inr (h .1, s .inside, s .here ∙ e, h .0))
+close-at s e room made w t (Refused number place) t′ h = (h .2 ∙ byte-before s, inr (h .1, s .inside, s .here ∙ e, h .0))
 
-pub sign-at : (text : List ℕ) (at byte : ℕ) (cursor : Cursor) (g : Sign) → Stepped text at byte cursor → byte ≡ sign-byte g
+pub sign-at : {text : List ℕ} {at byte : ℕ} {cursor : Cursor} (g : Sign) → Stepped text at byte cursor → byte ≡ sign-byte g
     → Sign-at text at (Value (kind-of-sign g) cursor)
-sign-at text at byte cursor g s e = (g, s .inside, s .here ∙ e, refl, s .next)
+sign-at g s e = (g, s .inside, s .here ∙ e, refl, s .next)
 
 pub no-sign : (byte : ℕ) → (byte ≡ byte-+ → ⊥) → (byte ≡ byte-dot → ⊥) → (byte ≡ byte-& → ⊥) → (g : Sign) → byte ≡ sign-byte g → ⊥
 unfolding sign-byte

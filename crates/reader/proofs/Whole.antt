@@ -11,14 +11,16 @@ use lib.ListN.{length, getD, length-map, length-replicate}
 use lib.Seq.{sets}
 use lib.Dec.{eqb}
 use borrow.Author.Tests.{eqb-true, eq-eqb}
+use Rattle.theory.specs.Kind
 use Rattle.theory.specs.Expression.{Expression, ∅, entries}
+use Rattle.theory.specs.Limit.{most-entries, longest-text}
 use Rattle.theory.specs.Refusal.{refusal, not-grammar, columns-differ, text-long}
 use Rattle.theory.specs.Column.{zeros, filled}
-use Rattle.theory.specs.Table.{Table, Row}
+use Rattle.theory.specs.Table.{Table, Row, entry}
 use Rattle.theory.specs.Grammar.{Text, Reading, read, refused, Reads, rows, byte-0, makes-entry}
-use Rattle.theory.specs.Scan.{token, before, behind, ended, next, open-at, finish, scan}
-use Rattle.theory.specs.Read.{Due, differ, long, short, Read}
-use Rattle.theory.proofs.Scan.{at-end, at-broken, at-many, at-entry, behind-all}
+use Rattle.theory.specs.Scan.{token, before, after, ended, next, open-at, finish, scan}
+use Rattle.theory.specs.Read.{Due, differ, long, short, left-by, Read}
+use Rattle.theory.proofs.Scan.{at-end, at-broken, at-many, at-entry, after-all}
 use Rattle.theory.proofs.Grammar.{scan-reads}
 use Rattle.theory.proofs.Rows.{rows-length, read-fits}
 use Rattle.columns.specs.declared.Cursor.{Cursor}
@@ -28,7 +30,7 @@ use Rattle.reader.specs.declared.entries.Point.{Point}
 use Rattle.reader.specs.declared.entries.Found.{Found}
 use Rattle.reader.specs.declared.entries.Found.the-variants.{Value, Refused}
 use Rattle.reader.specs.Found.{laid, Entry, start, begins, Answered, Unstarred}
-use Rattle.reader.specs.Whole.{at-start, Beginning, Begun, Whole-read, cleared, left-by, Limited}
+use Rattle.reader.specs.Whole.{at-start, Beginning, Begun, Whole-read, cleared, Limited}
 use Rattle.reader.proofs.Laid.{laid-zeros}
 use Rattle.reader.proofs.Stepped.{Stepped, byte-before}
 
@@ -40,18 +42,19 @@ begun-empty room text at z l = at-end room text 0 0 (before []) (subst (λ (p : 
 
 -- The row of `0`.
 abbrev empty-row : Row
-empty-row = record { kind = 0; left = 0; right = 0 }
+empty-row = entry Kind.empty-language 0 0
 
-zero-next : (b : ℕ) → b ≡ byte-0 → next (before []) (token b) ≡ some ended
+∅-next : (b : ℕ) → b ≡ byte-0 → next (before []) (token b) ≡ some ended
 unfolding next token
-zero-next b e = rw e
+∅-next b e = rw e
 
 module _ (room : ℕ) (text : Text) (t : Table) where
-  pub begun-zero : (at : Point) → at ≡ at-start room → (byte : ℕ) (cursor : Cursor) → Stepped text (at .cursor .at) byte cursor → byte ≡ byte-0
+  pub begun-∅ : (at : Point) → at ≡ at-start room → {byte : ℕ} {cursor : Cursor} → Stepped text (at .cursor .at) byte cursor → byte ≡ byte-0
       → (r : Found) (t′ : Table) → Entry room (at .made) cursor (empty-row ∷ []) t r t′ → Begun room text t r t′
   unfolding scan open-at makes-entry finish next entries rows
-  begun-zero at z byte cursor i e r t′ h =
-      go r (subst (λ (p : Point). Stepped text (p .cursor .at) byte cursor) z i) (subst (λ (p : Point). Entry room (p .made) cursor (empty-row ∷ []) t r t′) z h)
+  begun-∅ at z {byte} {cursor} i e r t′ h =
+      go r (subst (λ (p : Point). Stepped text (p .cursor .at) byte cursor) z i)
+      (subst (λ (p : Point). Entry room (p .made) cursor (empty-row ∷ []) t r t′) z h)
     where
       go : (r : Found) → Stepped text 0 byte cursor → Entry room 0 cursor (empty-row ∷ []) t r t′ → Begun room text t r t′
       go (Value made cursor′) i h =
@@ -60,7 +63,7 @@ module _ (room : ℕ) (text : Text) (t : Table) where
           record {
             expression = ∅;
             stand = ended;
-            reads = rw (next-at, h .1) (at-entry room text 0 0 (before []) (i .inside) ended (zero-next (getD text 0 0) here) (omega arith) (rw here) (h .0));
+            reads = rw (next-at, h .1) (at-entry room text 0 0 (before []) (i .inside) ended (∅-next (getD text 0 0) here) (omega arith) (rw here) (h .0));
             whole = refl;
             ended = λ l. refl;
             counted = h .1;
@@ -68,7 +71,7 @@ module _ (room : ℕ) (text : Text) (t : Table) where
           }
       go (Refused number place) i h =
           let here : getD text 0 0 ≡ byte-0 = i .here ∙ e in
-          rw (h .1, h .2 ∙ byte-before i) (at-many room text 0 0 (before []) (i .inside) ended (zero-next (getD text 0 0) here) (omega arith) (rw here) (h .0))
+          rw (h .1, h .2 ∙ byte-before i) (at-many room text 0 0 (before []) (i .inside) ended (∅-next (getD text 0 0) here) (omega arith) (rw here) (h .0))
 
   pub begun-expression : (at : Point) → at ≡ at-start room → (r : Found) (t′ : Table) → Answered room text (begins at t) r t′ → Unstarred text r
       → Begun room text t r t′
@@ -79,10 +82,10 @@ module _ (room : ℕ) (text : Text) (t : Table) where
       go (Value made cursor) n x =
           record {
             expression = x .expression;
-            stand = behind (x .expression) [];
+            stand = after (x .expression) [];
             reads = x .reads [] refl;
             whole = refl;
-            ended = λ l. behind-all (x .expression) (getD text (cursor .at) 0) n;
+            ended = λ l. after-all (x .expression) (getD text (cursor .at) 0) n;
             counted = x .counted ∙ zero-add (entries (x .expression));
             laid-out = x .laid-out;
           }
@@ -124,8 +127,13 @@ not-both a b n h e = yes-no (sym h ∙ rw (eq-eqb a n (e .0), eq-eqb b n (e .1))
 -- ---- The columns
 
 laid-cleared : (e : Expression) (t : Table) → entries e ≤ length (t .kind) → length (t .left) ≡ length (t .kind) → length (t .right) ≡ length (t .kind)
-    → laid 0 (rows 0 e) (cleared t) ≡ left-by (read e) t
-laid-cleared e t l p q = cc (column (λ w. w .kind) (length (t .kind)) l, column (λ w. w .left) (length (t .left)) (omega arith), column (λ w. w .right) (length (t .right)) (omega arith))
+    → laid 0 (rows 0 e) (cleared t) ≡ left-by t (read e)
+laid-cleared e t l p q =
+    cc (
+      column (λ w. w .kind) (length (t .kind)) l,
+      column (λ w. w .left) (length (t .left)) (omega arith),
+      column (λ w. w .right) (length (t .right)) (omega arith),
+    )
   where
     column : (f : Row → ℕ) (n : ℕ) → entries e ≤ n → sets (zeros n) 0 (map f (rows 0 e)) ≡ filled n (map f (rows 0 e))
     column f n h = laid-zeros n (map f (rows 0 e)) (rw (length-map, rows-length) h)
@@ -148,14 +156,14 @@ module _ (text : Text) (t t₁ : Table) (c : t₁ ≡ cleared t) where
   due-differ h = differ (λ e. h (left-kept ∙ e .0 ∙ sym kind-kept, right-kept ∙ e .1 ∙ sym kind-kept))
 
   module _ (p : length (t₁ .left) ≡ length (t₁ .kind)) (q : length (t₁ .right) ≡ length (t₁ .kind)) where
-    pub due-long : 4096 < length text → Due text t (refused (refusal text-long 0))
+    pub due-long : longest-text < length text → Due text t (refused (refusal text-long 0))
     due-long l = long (sym left-kept ∙ p ∙ kind-kept) (sym right-kept ∙ q ∙ kind-kept) l
 
-    module _ (l : length text ≤ 4096) (room : ℕ) (m : room ≡ min 512 (length (t₁ .kind))) where
+    module _ (l : length text ≤ longest-text) (room : ℕ) (m : room ≡ min most-entries (length (t₁ .kind))) where
       due-short : {r : Reading} → scan room text ≡ r → Due text t r
       due-short {r} e =
           short (sym left-kept ∙ p ∙ kind-kept) (sym right-kept ∙ q ∙ kind-kept) l
-          (subst (λ (n : ℕ). Reads n text r) (m ∙ ap (min 512) kind-kept) (subst (Reads room text) e (scan-reads room text)))
+          (subst (λ (n : ℕ). Reads n text r) (m ∙ ap (min most-entries) kind-kept) (subst (Reads room text) e (scan-reads room text)))
 
       pub limited : (r : Found) (t′ : Table) → Whole-read room text t₁ r t′ → Limited text t r t′
       limited (Value made cursor) t′ h =

@@ -1,16 +1,17 @@
--- What the reader's rules owe each other: told by the scan of `theory`, which goes on from behind what a rule found.
+-- What the reader's rules owe each other, told by the scan of `theory`: it goes on after what a rule found.
 use Prim.Native.Nat.{ℕ, _+_, _-_, _≤_, _<_}
 use mathlib.Core.Path.{_≡_}
 use mathlib.Core.Logic.{_⊎_}
-use mathlib.Core.List.{List, [], _∷_, map}
+use mathlib.Core.List.{List, [], _∷_}
 use mathlib.Core.Option.{Option, none, some}
 use lib.ListN.{length, drop, getD}
 use lib.Seq.{sets}
 use Rattle.theory.specs.Expression.{Expression, Sign, ε, letter, entries}
+use Rattle.theory.specs.Limit.{most-entries, most-open}
 use Rattle.theory.specs.Refusal.{refusal, not-grammar, too-many-entries}
-use Rattle.theory.specs.Table.{Table, table, Row, kind-of-sign}
+use Rattle.theory.specs.Table.{Table, table, columns, Row, kind-of-sign}
 use Rattle.theory.specs.Grammar.{Text, Reading, refused, rows, sign-byte, byte-0, byte-close, byte-*}
-use Rattle.theory.specs.Scan.{Token, opening, closing, starring, zero, unit, other, signing, naming, Frame, Stand, before, behind, scan-from}
+use Rattle.theory.specs.Scan.{Token, opening, closing, starring, ∅-token, ε-token, other, signing, naming, Frame, Stand, before, after, scan-from}
 use Rattle.columns.specs.declared.Cursor.{Cursor}
 use Rattle.columns.specs.Row.{as-row}
 use Rattle.reader.specs.declared.entries.Point.{Point}
@@ -22,11 +23,11 @@ use Rattle.reader.specs.declared.entries.Found.the-variants.{Value, Refu
 -- The columns with rows ws from row `base` on.
 abbrev pub laid : ℕ → List Row → Table → Table
 laid base ws t =
-    table (sets (t .kind) base (map (λ (w : Row). w .kind) ws)) (sets (t .left) base (map (λ (w : Row). w .left) ws)) (sets (t .right) base (map (λ (w : Row). w .right) ws))
+    let rows = columns ws in table (sets (t .kind) base (rows .kind)) (sets (t .left) base (rows .left)) (sets (t .right) base (rows .right))
 
 -- 01: "the smaller of 512 and the column length" is what every rule may fill.
 pub record Room (room : ℕ) (t : Table) : Type 0 where
-  pub small : room ≤ 512
+  pub small : room ≤ most-entries
   pub kind : room ≤ length (t .kind)
   pub left : room ≤ length (t .left)
   pub right : room ≤ length (t .right)
@@ -41,8 +42,8 @@ unfoldable pub leaf-of : Token → Option Expression
 leaf-of opening = none
 leaf-of closing = none
 leaf-of starring = none
-leaf-of zero = none
-leaf-of unit = some ε
+leaf-of ∅-token = none
+leaf-of ε-token = some ε
 leaf-of other = none
 leaf-of (signing s) = none
 leaf-of (naming a) = some (letter a)
@@ -88,25 +89,25 @@ begins at t = start (at .depth) (at .cursor .at) (at .made) t
 -- Where a rule may begin. `0` is an expression only where nothing was read before it, and no rule reads it.
 pub record May-begin (room : ℕ) (text : Text) (s : Start) : Type 0 where
   pub room-left : Room room (s .columns)
-  pub shallow : s .depth ≤ 64
+  pub shallow : s .depth ≤ most-open
   pub within : s .at ≤ length text
   pub fits : s .made ≤ room
-  pub no-zero : s .depth ≡ 0 → getD text (s .at) 0 ≡ byte-0 → ⊥
+  pub no-∅ : s .depth ≡ 0 → getD text (s .at) 0 ≡ byte-0 → ⊥
 
--- An expression stands between s and place `at`: the scan goes on behind it, and its rows are made.
-pub record Behind (room : ℕ) (text : Text) (s : Start) (at made : ℕ) (t : Table) : Type 0 where
+-- An expression stands between s and place `at`: the scan goes on after it, and its rows are made.
+pub record After (room : ℕ) (text : Text) (s : Start) (at made : ℕ) (t : Table) : Type 0 where
   pub expression : Expression
-  pub reads : (fs : List Frame) → length fs ≡ s .depth → scan-at room text (s .at) (s .made) (before fs) ≡ scan-at room text at made (behind expression fs)
-  pub shallow : s .depth ≤ 64
+  pub reads : (fs : List Frame) → length fs ≡ s .depth → scan-at room text (s .at) (s .made) (before fs) ≡ scan-at room text at made (after expression fs)
+  pub shallow : s .depth ≤ most-open
   pub onward : s .at < at
   pub within : at ≤ length text
   pub counted : made ≡ s .made + entries expression
   pub fits : made ≤ room
   pub laid-out : t ≡ laid (s .made) (rows (s .made) expression) (s .columns)
 
--- A rule's answer: the expression behind which it stopped, or the refusal that the scan gives.
+-- A rule's answer: the expression after which it stopped, or the refusal that the scan gives.
 abbrev pub Answered : (room : ℕ) → Text → Start → Found → Table → Type 0
-Answered room text s (Value made cursor) t′ = Behind room text s (cursor .at) made t′
+Answered room text s (Value made cursor) t′ = After room text s (cursor .at) made t′
 Answered room text s (Refused number place) t′ =
     (fs : List Frame) → length fs ≡ s .depth → scan-at room text (s .at) (s .made) (before fs) ≡ refused (refusal number place)
 

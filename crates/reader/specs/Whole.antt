@@ -7,9 +7,9 @@ use Rattle.theory.specs.Expression.{Expression, entries}
 use Rattle.theory.specs.Refusal.{refusal}
 use Rattle.theory.specs.Column.{zeros}
 use Rattle.theory.specs.Table.{Table, table}
-use Rattle.theory.specs.Grammar.{Text, Reading, read, refused, rows}
+use Rattle.theory.specs.Grammar.{Text, read, refused, rows}
 use Rattle.theory.specs.Scan.{token, Stand, next, finish, scan}
-use Rattle.theory.specs.Read.{Due, column-of}
+use Rattle.theory.specs.Read.{Due, left-by}
 use Rattle.reader.specs.declared.entries.Point.{Point}
 use Rattle.reader.specs.declared.entries.Found.{Found}
 use Rattle.reader.specs.declared.entries.Found.the-variants.{Value, Refused}
@@ -19,7 +19,7 @@ use Rattle.reader.specs.Found.{laid, scan-at}
 abbrev pub at-start : ℕ → Point
 at-start room = record { cursor = record { at = 0 }; depth = 0; made = 0; room = room }
 
--- `0` or an expression stands before place `at`, behind which the grammar allows no other byte.
+-- `0` or an expression stands before place `at`, after which the grammar allows no other byte.
 pub record Beginning (room : ℕ) (text : Text) (at made : ℕ) (t t′ : Table) : Type 0 where
   pub expression : Expression
   pub stand : Stand
@@ -42,11 +42,7 @@ Whole-read room text t (Refused number place) t′ = scan room text ≡ refused 
 abbrev pub cleared : Table → Table
 cleared t = table (zeros (length (t .kind))) (zeros (length (t .left))) (zeros (length (t .right)))
 
--- The columns that a reading leaves in place of t.
-abbrev pub left-by : Reading → Table → Table
-left-by r t = table (column-of (λ w. w .kind) r (length (t .kind))) (column-of (λ w. w .left) r (length (t .left))) (column-of (λ w. w .right) r (length (t .right)))
-
 -- The reading that is due. What a refusal leaves in the columns is not said: they are cleared after it.
 abbrev pub Limited : Text → Table → Found → Table → Type 0
-Limited text t (Value made cursor) t′ = (e : Expression) × Due text t (read e) × (made ≡ entries e) × (t′ ≡ left-by (read e) t)
+Limited text t (Value made cursor) t′ = (e : Expression) × Due text t (read e) × (made ≡ entries e) × (t′ ≡ left-by t (read e))
 Limited text t (Refused number place) t′ = Due text t (refused (refusal number place))

@@ -3,6 +3,8 @@
 use columns::Cursor;
 use columns::Row;
 use columns::Step;
+use theory::kind;
+use theory::refusal;
 ghost use mathlib.Core.Path.{_≡_};
 ghost use mathlib.Core.List.{[], _∷_};
 ghost use Prim.Native.Nat.{_≤_, _<_};
@@ -10,7 +12,7 @@ ghost use Rattle.theory.specs.Table.{table};
 ghost use Rattle.theory.specs.Grammar.{is-letter};
 ghost use Rattle.theory.specs.Scan.{token};
 ghost use Rattle.columns.specs.Row.{as-row};
-ghost use Rattle.reader.specs.Found.{Room, Entry, Leaf-row, Sign-at, Close-at, Start, Behind, Answered, Unstarred};
+ghost use Rattle.reader.specs.Found.{Room, Entry, Leaf-row, Sign-at, Close-at, Start, After, Answered, Unstarred};
 
 // How far a reading is. 01: "The text place .. a small cursor, handed in and handed back"; with it the parentheses open at once, the entries
 // made, and the room for them.
@@ -44,7 +46,7 @@ pub fn entry(at: Point, row: Row, kind: &mut [u8], left: &mut [u16], right: &mut
         Found::Value(made + 1, cursor)
     } else {
         Found::Refused {
-            number: 15,
+            number: refusal::TOO_MANY_ENTRIES,
             place: cursor.at - 1,
         }
     }
@@ -54,7 +56,7 @@ pub fn entry(at: Point, row: Row, kind: &mut [u8], left: &mut [u16], right: &mut
 fn letter(byte: u8) -> bool
     ensures { λ r. ⌜ r ≡ is-letter byte ⌝ }
 {
-    ((65 <= byte) & (byte <= 90)) | ((97 <= byte) & (byte <= 122))
+    ((b'A' <= byte) & (byte <= b'Z')) | ((b'a' <= byte) & (byte <= b'z'))
 }
 
 // What a byte is by itself: `1` or a letter, with its row, or no expression.
@@ -68,14 +70,14 @@ pub fn leaf(byte: u8) -> LeafRow
 {
     if byte == b'1' {
         return LeafRow::Of(Row {
-            kind: 1,
+            kind: kind::EMPTY_WORD,
             left: 0,
             right: 0,
         });
     }
     if letter(byte) {
         return LeafRow::Of(Row {
-            kind: 2,
+            kind: kind::LETTER,
             left: byte as u16,
             right: 0,
         });
@@ -89,13 +91,19 @@ pub fn sign(text: &[u8], cursor: Cursor) -> Found
 {
     let place = cursor.at;
     let Step::Byte(byte, cursor) = cursor.step(text) else {
-        return Found::Refused { number: 13, place };
+        return Found::Refused {
+            number: refusal::NOT_GRAMMAR,
+            place,
+        };
     };
     match byte {
-        b'+' => Found::Value(3, cursor),
-        b'.' => Found::Value(4, cursor),
-        b'&' => Found::Value(5, cursor),
-        _ => Found::Refused { number: 13, place },
+        b'+' => Found::Value(kind::UNION as usize, cursor),
+        b'.' => Found::Value(kind::CONCATENATION as usize, cursor),
+        b'&' => Found::Value(kind::SHUFFLE as usize, cursor),
+        _ => Found::Refused {
+            number: refusal::NOT_GRAMMAR,
+            place,
+        },
     }
 }
 
@@ -117,12 +125,18 @@ pub fn close(
     let cursor = at.cursor;
     let place = cursor.at;
     let Step::Byte(byte, cursor) = cursor.step(text) else {
-        return Found::Refused { number: 13, place };
+        return Found::Refused {
+            number: refusal::NOT_GRAMMAR,
+            place,
+        };
     };
     if byte == b')' {
         entry(Point { cursor, ..at }, row, kind, left, right)
     } else {
-        Found::Refused { number: 13, place }
+        Found::Refused {
+            number: refusal::NOT_GRAMMAR,
+            place,
+        }
     }
 }
 
@@ -130,7 +144,7 @@ pub fn close(
 pub fn stars(text: &[u8], at: Point, kind: &mut [u8], left: &mut [u16], right: &mut [u16]) -> Found
     requires { ⌜ Room (at .room) (table (now kind) (now left) (now right)) × (0 < at .made) × (at .made ≤ at .room) ⌝ }
     ensures { λ r.
-        ⌜ (((s : Start) → Behind (at .room) (now (text .entry)) s (at .cursor .at) (at .made)
+        ⌜ (((s : Start) → After (at .room) (now (text .entry)) s (at .cursor .at) (at .made)
         (table (now (kind .entry)) (now (left .entry)) (now (right .entry)))
         → Answered (at .room) (now (text .entry)) s r (table (now (kind .exit)) (now (left .exit)) (now (right .exit)))))
         × Unstarred (now (text .entry)) r ⌝ }
@@ -138,19 +152,19 @@ pub fn stars(text: &[u8], at: Point, kind: &mut [u8], left: &mut [u16], right: &
     let mut cursor = at.cursor;
     let mut made = at.made;
     loop {
-        let Step::Byte(byte, behind) = cursor.step(text) else {
+        let Step::Byte(byte, after) = cursor.step(text) else {
             return Found::Value(made, cursor);
         };
         if byte != b'*' {
             return Found::Value(made, cursor);
         }
         let row = Row {
-            kind: 6,
+            kind: kind::STAR,
             left: (made - 1) as u16,
             right: 0,
         };
         let point = Point {
-            cursor: behind,
+            cursor: after,
             made,
             ..at
         };

@@ -4,6 +4,8 @@ mod entries;
 mod rules;
 
 use entries::Found;
+use theory::limit;
+use theory::refusal;
 ghost use mathlib.Core.Path.{_≡_};
 ghost use Prim.Native.Nat.{min};
 ghost use Rattle.theory.specs.Table.{table};
@@ -42,17 +44,17 @@ fn limited(text: &[u8], kind: &mut [u8], left: &mut [u16], right: &mut [u16]) ->
     let room = kind.len();
     if (left.len() != room) | (right.len() != room) {
         return Found::Refused {
-            number: 1,
+            number: refusal::COLUMNS_DIFFER,
             place: 0,
         };
     }
-    if 4096 < text.len() {
+    if limit::TEXT < text.len() {
         return Found::Refused {
-            number: 12,
+            number: refusal::TEXT_LONG,
             place: 0,
         };
     }
-    rules::whole(text, smaller(512, room), kind, left, right)
+    rules::whole(text, smaller(limit::ENTRIES, room), kind, left, right)
 }
 
 fn smaller(a: usize, b: usize) -> usize

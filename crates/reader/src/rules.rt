@@ -7,12 +7,15 @@ use super::entries::Point;
 use columns::Cursor;
 use columns::Row;
 use columns::Step;
+use theory::kind;
+use theory::limit;
+use theory::refusal;
 ghost use mathlib.Core.Path.{_≡_};
 ghost use Rattle.theory.specs.Table.{table};
 ghost use Rattle.reader.specs.Found.{Room, begins, May-begin, Answered, Unstarred};
 ghost use Rattle.reader.specs.Whole.{at-start, Begun, Whole-read};
 
-// An operand and the stars behind it.
+// An operand and the stars after it.
 fn expression(text: &[u8], at: Point, kind: &mut [u8], left: &mut [u16], right: &mut [u16]) -> Found
     requires { ⌜ May-begin (at .room) (now text) (begins at (table (now kind) (now left) (now right))) ⌝ }
     ensures { λ r.
@@ -37,22 +40,31 @@ fn operand(text: &[u8], at: Point, kind: &mut [u8], left: &mut [u16], right: &mu
     let cursor = at.cursor;
     let place = cursor.at;
     let Step::Byte(byte, cursor) = cursor.step(text) else {
-        return Found::Refused { number: 13, place };
+        return Found::Refused {
+            number: refusal::NOT_GRAMMAR,
+            place,
+        };
     };
-    let mut behind = at;
-    behind.cursor = cursor;
+    let mut after = at;
+    after.cursor = cursor;
     if byte != b'(' {
         let LeafRow::Of(row) = entries::leaf(byte) else {
-            return Found::Refused { number: 13, place };
+            return Found::Refused {
+                number: refusal::NOT_GRAMMAR,
+                place,
+            };
         };
-        return entries::entry(behind, row, kind, left, right);
+        return entries::entry(after, row, kind, left, right);
     }
     let depth = at.depth;
-    if depth == 64 {
-        return Found::Refused { number: 14, place };
+    if depth == limit::OPEN {
+        return Found::Refused {
+            number: refusal::TOO_DEEP,
+            place,
+        };
     }
-    behind.depth = depth + 1;
-    let x = expression(text, behind, kind, left, right);
+    after.depth = depth + 1;
+    let x = expression(text, after, kind, left, right);
     let Found::Value(first, cursor) = x else {
         return x;
     };
@@ -60,9 +72,9 @@ fn operand(text: &[u8], at: Point, kind: &mut [u8], left: &mut [u16], right: &mu
     let Found::Value(kind_of_sign, cursor) = sign else {
         return sign;
     };
-    behind.cursor = cursor;
-    behind.made = first;
-    let y = expression(text, behind, kind, left, right);
+    after.cursor = cursor;
+    after.made = first;
+    let y = expression(text, after, kind, left, right);
     let Found::Value(second, cursor) = y else {
         return y;
     };
@@ -71,9 +83,9 @@ fn operand(text: &[u8], at: Point, kind: &mut [u8], left: &mut [u16], right: &mu
         left: (first - 1) as u16,
         right: (second - 1) as u16,
     };
-    behind.cursor = cursor;
-    behind.made = second;
-    entries::close(text, behind, row, kind, left, right)
+    after.cursor = cursor;
+    after.made = second;
+    entries::close(text, after, row, kind, left, right)
 }
 
 // 01: "`0` alone is the empty language." Any other text begins with an expression.
@@ -86,13 +98,13 @@ fn beginning(text: &[u8], at: Point, kind: &mut [u8], left: &mut [u16], right: &
     let start = at.cursor;
     let Step::Byte(byte, cursor) = start.step(text) else {
         return Found::Refused {
-            number: 13,
+            number: refusal::NOT_GRAMMAR,
             place: 0,
         };
     };
     if byte == b'0' {
         let row = Row {
-            kind: 0,
+            kind: kind::EMPTY_LANGUAGE,
             left: 0,
             right: 0,
         };
@@ -101,7 +113,7 @@ fn beginning(text: &[u8], at: Point, kind: &mut [u8], left: &mut [u16], right: &
     expression(text, at, kind, left, right)
 }
 
-// A beginning, and the end of the text behind it.
+// A beginning, and the end of the text after it.
 pub fn whole(
     text: &[u8],
     room: usize,
@@ -127,7 +139,7 @@ pub fn whole(
     };
     let Step::End = cursor.step(text) else {
         return Found::Refused {
-            number: 13,
+            number: refusal::NOT_GRAMMAR,
             place: cursor.at,
         };
     };

@@ -9,8 +9,9 @@ use Rattle.theory.specs.Expression.{Expression, entries}
 use Rattle.theory.specs.Column.{filled}
 use Rattle.theory.specs.Table.{Table, Row, table, columns}
 use Rattle.theory.specs.Grammar.{Text, Reading, read, rows, written, Writable, Reads, whole, broken, stopped, deep, many}
-use Rattle.theory.specs.Read.{Read, Entered, entered, filled-part, Due, differ, long, short}
-use Rattle.theory.proofs.Due.{left-by, leaves}
+use Rattle.theory.specs.Limit.{most-entries}
+use Rattle.theory.specs.Read.{Read, Entered, entered, filled-part, left-by, Due, differ, long, short}
+use Rattle.theory.proofs.Due.{leaves}
 use Rattle.theory.proofs.Rows.{read-fits, rows-length}
 
 -- The expression that was read.
@@ -19,14 +20,14 @@ pub record Expressed (text : Text) (q : Reading) : Type 0 where
   pub is : q ≡ read expression
   pub writable : Writable expression
   pub spelled : written expression ≡ text
-  pub fits : entries expression ≤ 512
+  pub fits : entries expression ≤ most-entries
 
 pub expressed : {text : Text} {t : Table} {q : Reading} → Due text t q → (entered q) .refusal .number ≡ 0 → Expressed text q
 expressed (differ n) z = absurd (omega arith)
 expressed (long p q l) z = absurd (omega arith)
 expressed {text} {t} (short p q l h) z = go h z
   where
-    go : {q : Reading} → Reads (min 512 (length (t .kind))) text q → (entered q) .refusal .number ≡ 0 → Expressed text q
+    go : {q : Reading} → Reads (min most-entries (length (t .kind))) text q → (entered q) .refusal .number ≡ 0 → Expressed text q
     go (whole e w x b) z = let f = read-fits (whole e w x b) in record { expression = e; is = refl; writable = w; spelled = x; fits = omega arith }
     go (broken p l b n) z = absurd (omega arith)
     go (stopped b n) z = absurd (omega arith)
@@ -35,7 +36,8 @@ expressed {text} {t} (short p q l h) z = go h z
 
 -- The part that was filled holds the rows of the expression.
 part-rows : (t : Table) (e : Expression) → filled-part (entered (read e)) (left-by t (read e)) ≡ columns (rows 0 e)
-part-rows t e = λ i. table (part (λ w. w .kind) (length (t .kind)) i) (part (λ w. w .left) (length (t .left)) i) (part (λ w. w .right) (length (t .right)) i)
+part-rows t e = λ i.
+    table (part (λ w. w .kind) (length (t .kind)) i) (part (λ w. w .left) (length (t .left)) i) (part (λ w. w .right) (length (t .right)) i)
   where
     part : (field : Row → ℕ) (n : ℕ) → take (entries e) (filled n (map field (rows 0 e))) ≡ map field (rows 0 e)
     part field n = take-at (map field (rows 0 e)) _ (entries e) (length-map (rows 0 e) field ∙ rows-length 0 e)

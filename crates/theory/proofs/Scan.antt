@@ -10,10 +10,11 @@ use mathlib.Core.Option.{none, some}
 use lib.ListN.{length, drop, getD, drop-of-length-le}
 use lib.Seq.{drop-cons}
 use borrow.Author.Tests.{lt-ltb, le-ltb}
+use Rattle.theory.specs.Limit.{most-open}
 use Rattle.theory.specs.Expression.{Expression, Sign, union, concatenation, shuffle, star, binary}
 use Rattle.theory.specs.Refusal.{refusal, not-grammar, too-deep, too-many-entries}
 use Rattle.theory.specs.Grammar.{Text, refused, byte-open, byte-close, byte-*, sign-byte, makes-entry}
-use Rattle.theory.specs.Scan.{Token, opening, closing, starring, zero, unit, other, signing, naming, token, Frame, opened, signed, Stand, before, behind, next, open-at, finish, scan-from}
+use Rattle.theory.specs.Scan.{Token, opening, closing, starring, ∅-token, ε-token, other, signing, naming, token, Frame, opened, signed, Stand, before, after, next, open-at, finish, scan-from}
 use Rattle.theory.proofs.Grammar.Bytes.{Made-of, token-made-of}
 
 -- ---- A step
@@ -32,22 +33,24 @@ module _ (room : ℕ) (text : Text) (p k : ℕ) (c : Stand) where
     at-broken e = rw (from-here, scan-from, e)
 
     module _ (c′ : Stand) (e : next c (token (getD text p 0)) ≡ some c′) where
-      pub at-deep : 64 < open-at c′ → scan-from room p k c (drop p text) ≡ refused (refusal too-deep p)
+      pub at-deep : most-open < open-at c′ → scan-from room p k c (drop p text) ≡ refused (refusal too-deep p)
       unfolding scan-from
-      at-deep d = rw (from-here, scan-from, e, lt-ltb 64 (open-at c′) d)
+      at-deep d = rw (from-here, scan-from, e, lt-ltb most-open (open-at c′) d)
 
-      module _ (d : open-at c′ ≤ 64) where
+      module _ (d : open-at c′ ≤ most-open) where
         pub at-many : makes-entry (getD text p 0) ≡ true → room ≤ k → scan-from room p k c (drop p text) ≡ refused (refusal too-many-entries p)
         unfolding scan-from
-        at-many m f = rw (from-here, scan-from, e, le-ltb 64 (open-at c′) d, m, lt-ltb room (suc k) (omega arith))
+        at-many m f = rw (from-here, scan-from, e, le-ltb most-open (open-at c′) d, m, lt-ltb room (suc k) (omega arith))
 
-        pub at-entry : makes-entry (getD text p 0) ≡ true → k < room → scan-from room p k c (drop p text) ≡ scan-from room (p + 1) (k + 1) c′ (drop (p + 1) text)
+        pub at-entry : makes-entry (getD text p 0) ≡ true → k < room
+            → scan-from room p k c (drop p text) ≡ scan-from room (p + 1) (k + 1) c′ (drop (p + 1) text)
         unfolding scan-from
-        at-entry m f = rw (from-here, scan-from, e, le-ltb 64 (open-at c′) d, m, le-ltb room (suc k) (omega arith)) (rw (m, add-one p, add-one k))
+        at-entry m f =
+            rw (from-here, scan-from, e, le-ltb most-open (open-at c′) d, m, le-ltb room (suc k) (omega arith)) (rw (m, add-one p, add-one k))
 
         pub at-mark : makes-entry (getD text p 0) ≡ false → k ≤ room → scan-from room p k c (drop p text) ≡ scan-from room (p + 1) k c′ (drop (p + 1) text)
         unfolding scan-from
-        at-mark m f = rw (from-here, scan-from, e, le-ltb 64 (open-at c′) d, m, le-ltb room k f) (rw (m, add-one))
+        at-mark m f = rw (from-here, scan-from, e, le-ltb most-open (open-at c′) d, m, le-ltb room k f) (rw (m, add-one))
 
 -- ---- Before an expression
 
@@ -55,51 +58,51 @@ pub before-opening : (fs : List Frame) (b : ℕ) → b ≡ byte-open → next (b
 unfolding next token
 before-opening fs b e = rw e
 
--- ---- Behind an expression
+-- ---- After an expression
 
-pub behind-star : (x : Expression) (fs : List Frame) (b : ℕ) → b ≡ byte-* → next (behind x fs) (token b) ≡ some (behind (star x) fs)
+pub after-star : (x : Expression) (fs : List Frame) (b : ℕ) → b ≡ byte-* → next (after x fs) (token b) ≡ some (after (star x) fs)
 unfolding next token
-behind-star x fs b e = rw e
+after-star x fs b e = rw e
 
-pub behind-sign : (x : Expression) (s : Sign) (fs : List Frame) (b : ℕ) → b ≡ sign-byte s
-    → next (behind x (opened ∷ fs)) (token b) ≡ some (before (signed x s ∷ fs))
+pub after-sign : (x : Expression) (s : Sign) (fs : List Frame) (b : ℕ) → b ≡ sign-byte s
+    → next (after x (opened ∷ fs)) (token b) ≡ some (before (signed x s ∷ fs))
 unfolding next token sign-byte
-behind-sign x union fs b e = rw e
-behind-sign x concatenation fs b e = rw e
-behind-sign x shuffle fs b e = rw e
+after-sign x union fs b e = rw e
+after-sign x concatenation fs b e = rw e
+after-sign x shuffle fs b e = rw e
 
-pub behind-close : (x y : Expression) (s : Sign) (fs : List Frame) (b : ℕ) → b ≡ byte-close
-    → next (behind y (signed x s ∷ fs)) (token b) ≡ some (behind (binary s x y) fs)
+pub after-close : (x y : Expression) (s : Sign) (fs : List Frame) (b : ℕ) → b ≡ byte-close
+    → next (after y (signed x s ∷ fs)) (token b) ≡ some (after (binary s x y) fs)
 unfolding next token
-behind-close x y s fs b e = rw e
+after-close x y s fs b e = rw e
 
--- Where no `*` follows, only a sign or `)` leads on from behind an expression, as the innermost parenthesis asks.
+-- Where no `*` follows, only a sign or `)` leads on from after an expression, as the innermost parenthesis asks.
 module _ (x : Expression) (fs : List Frame) (b : ℕ) (n : b ≡ byte-* → ⊥) where
-  behind-stuck : (b ≡ byte-close → next (behind x fs) closing ≡ none) → ((s : Sign) → b ≡ sign-byte s → next (behind x fs) (signing s) ≡ none)
-      → next (behind x fs) (token b) ≡ none
+  after-stuck : (b ≡ byte-close → next (after x fs) closing ≡ none) → ((s : Sign) → b ≡ sign-byte s → next (after x fs) (signing s) ≡ none)
+      → next (after x fs) (token b) ≡ none
   unfolding next
-  behind-stuck unclosed unsigned = go (token b) (token-made-of b)
+  after-stuck unclosed unsigned = go (token b) (token-made-of b)
     where
-      go : (k : Token) → Made-of k b → next (behind x fs) k ≡ none
+      go : (k : Token) → Made-of k b → next (after x fs) k ≡ none
       go opening m = refl
       go closing m = unclosed m
       go starring m = absurd (n m)
-      go zero m = refl
-      go unit m = refl
+      go ∅-token m = refl
+      go ε-token m = refl
       go other m = refl
       go (signing s) m = unsigned s m
       go (naming a) m = refl
 
-pub behind-all : (x : Expression) (b : ℕ) → (b ≡ byte-* → ⊥) → next (behind x []) (token b) ≡ none
+pub after-all : (x : Expression) (b : ℕ) → (b ≡ byte-* → ⊥) → next (after x []) (token b) ≡ none
 unfolding next
-behind-all x b n = behind-stuck x [] b n (λ _. refl) (λ s _. refl)
+after-all x b n = after-stuck x [] b n (λ _. refl) (λ s _. refl)
 
-pub behind-unsigned : (x : Expression) (fs : List Frame) (b : ℕ) → (b ≡ byte-* → ⊥) → ((s : Sign) → b ≡ sign-byte s → ⊥)
-    → next (behind x (opened ∷ fs)) (token b) ≡ none
+pub after-unsigned : (x : Expression) (fs : List Frame) (b : ℕ) → (b ≡ byte-* → ⊥) → ((s : Sign) → b ≡ sign-byte s → ⊥)
+    → next (after x (opened ∷ fs)) (token b) ≡ none
 unfolding next
-behind-unsigned x fs b n h = behind-stuck x (opened ∷ fs) b n (λ _. refl) (λ s m. absurd (h s m))
+after-unsigned x fs b n h = after-stuck x (opened ∷ fs) b n (λ _. refl) (λ s m. absurd (h s m))
 
-pub behind-unclosed : (x y : Expression) (s : Sign) (fs : List Frame) (b : ℕ) → (b ≡ byte-* → ⊥) → (b ≡ byte-close → ⊥)
-    → next (behind y (signed x s ∷ fs)) (token b) ≡ none
+pub after-unclosed : (x y : Expression) (s : Sign) (fs : List Frame) (b : ℕ) → (b ≡ byte-* → ⊥) → (b ≡ byte-close → ⊥)
+    → next (after y (signed x s ∷ fs)) (token b) ≡ none
 unfolding next
-behind-unclosed x y s fs b n h = behind-stuck y (signed x s ∷ fs) b n (λ m. absurd (h m)) (λ g _. refl)
+after-unclosed x y s fs b n h = after-stuck y (signed x s ∷ fs) b n (λ m. absurd (h m)) (λ g _. refl)

@@ -1,14 +1,16 @@
--- 01, "The written expression", and refusals 13 to 15: what a text may be, without a parser; and beside it an executable reading.
+-- 01, "The written expression", and refusals 13 to 15: what a text may be and what its reading is, without a parser. `Scan` has the reading
+-- that computes.
 use Prim.Native.Nat.{ℕ, suc, _+_, _-_, _≤_, _<_, pred}
 use mathlib.Core.Path.{_≡_}
 use mathlib.Core.Bool.{Bool, cond, not, _&&_, _||_}
 use mathlib.Core.List.{List, [], _∷_, _++_}
 use lib.ListN.{length, take}
 use lib.Dec.{T, eqb, leb}
+use Rattle.theory.specs.Kind
 use Rattle.theory.specs.Expression.{Expression, Sign, ∅, ε, letter, binary, star, union, concatenation, shuffle, entries}
 use Rattle.theory.specs.Limit.{most-open}
 use Rattle.theory.specs.Refusal.{Refusal, refusal, not-grammar, too-deep, too-many-entries}
-use Rattle.theory.specs.Table.{Row, kind-of-sign, times}
+use Rattle.theory.specs.Table.{Row, entry, kind-of-sign, times}
 
 abbrev pub Text : Type 0
 Text = List ℕ
@@ -39,9 +41,21 @@ byte-0 = 48
 abbrev pub byte-1 : ℕ
 byte-1 = 49
 
+abbrev pub byte-A : ℕ
+byte-A = 65
+
+abbrev pub byte-Z : ℕ
+byte-Z = 90
+
+abbrev pub byte-a : ℕ
+byte-a = 97
+
+abbrev pub byte-z : ℕ
+byte-z = 122
+
 -- 01: "one letter `A`-`Z` or `a`-`z`".
 unfoldable pub is-letter : ℕ → Bool
-is-letter b = (leb 65 b && leb b 90) || (leb 97 b && leb b 122)
+is-letter b = (leb byte-A b && leb b byte-Z) || (leb byte-a b && leb b byte-z)
 
 -- 01: "with sign `+`, `.` or `&`"; "the sign `&` for shuffle, `+` for union and `.` for concatenation".
 unfoldable pub sign-byte : Sign → ℕ
@@ -119,18 +133,20 @@ pub data Reads (room : ℕ) (t : Text) : Reading → Type 0 where
   whole : (e : Expression) → Writable e → written e ≡ t → Passed room t → Reads room t (read e)
   broken : (p : ℕ) → p < length t → Passed room (take p t) → ¬ Viable (take (suc p) t) → Reads room t (refused (refusal not-grammar p))
   stopped : Passed room t → ¬ Whole t → Reads room t (refused (refusal not-grammar (length t)))
-  deep : (p : ℕ) → p < length t → Passed room (take p t) → Viable (take (suc p) t) → most-open < depth (take (suc p) t) → Reads room t (refused (refusal too-deep p))
-  many : (p : ℕ) → p < length t → Passed room (take p t) → Viable (take (suc p) t) → room < made (take (suc p) t) → Reads room t (refused (refusal too-many-entries p))
+  deep : (p : ℕ) → p < length t → Passed room (take p t) → Viable (take (suc p) t) → most-open < depth (take (suc p) t)
+      → Reads room t (refused (refusal too-deep p))
+  many : (p : ℕ) → p < length t → Passed room (take p t) → Viable (take (suc p) t) → room < made (take (suc p) t)
+      → Reads room t (refused (refusal too-many-entries p))
 
 -- ---- The entries of an expression that was read
 
 -- Rows as they are made, the first of them with number `base`: an expression's last row is its own.
 unfoldable pub rows : ℕ → Expression → List Row
 unfolding entries kind-of-sign
-rows base ∅ = record { kind = 0; left = 0; right = 0 } ∷ []
-rows base ε = record { kind = 1; left = 0; right = 0 } ∷ []
-rows base (letter a) = record { kind = 2; left = a; right = 0 } ∷ []
+rows base ∅ = entry Kind.empty-language 0 0 ∷ []
+rows base ε = entry Kind.empty-word 0 0 ∷ []
+rows base (letter a) = entry Kind.letter a 0 ∷ []
 rows base (binary s x y) =
     rows base x ++ rows (base + entries x) y
-    ++ (record { kind = kind-of-sign s; left = base + pred (entries x); right = base + entries x + pred (entries y) } ∷ [])
-rows base (star x) = rows base x ++ (record { kind = 6; left = base + pred (entries x); right = 0 } ∷ [])
+    ++ (entry (kind-of-sign s) (base + pred (entries x)) (base + entries x + pred (entries y)) ∷ [])
+rows base (star x) = rows base x ++ (entry Kind.star (base + pred (entries x)) 0 ∷ [])

@@ -34,6 +34,11 @@ abbrev pub column-of : (Row → ℕ) → Reading → ℕ → List ℕ
 column-of field (read e) n = filled n (map field (rows 0 e))
 column-of field (refused r) n = zeros n
 
+-- The columns of t after a reading.
+abbrev pub left-by : Table → Reading → Table
+left-by t r =
+    table (column-of (λ w. w .kind) r (length (t .kind))) (column-of (λ w. w .left) r (length (t .left))) (column-of (λ w. w .right) r (length (t .right)))
+
 -- What `read` owes.
 pub record Read (text : Text) (t : Table) (answer : Entered) (t′ : Table) : Type 0 where
   pub reading : Reading

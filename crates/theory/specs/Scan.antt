@@ -13,7 +13,7 @@ use Rattle.theory.specs.Grammar.{Text, Reading, read, refused, byte-open
 
 -- What a byte is in 01's grammar.
 pub data Token : Type 0 where
-  opening closing starring zero unit other : Token
+  opening closing starring ∅-token ε-token other : Token
   signing : Sign → Token
   naming : ℕ → Token
 
@@ -23,8 +23,8 @@ token b =
     cond (eqb b byte-open) opening
     (cond (eqb b byte-close) closing
     (cond (eqb b byte-*) starring
-    (cond (eqb b byte-0) zero
-    (cond (eqb b byte-1) unit
+    (cond (eqb b byte-0) ∅-token
+    (cond (eqb b byte-1) ε-token
     (cond (eqb b byte-+) (signing union)
     (cond (eqb b byte-dot) (signing concatenation)
     (cond (eqb b byte-&) (signing shuffle)
@@ -35,16 +35,16 @@ pub data Frame : Type 0 where
   opened : Frame
   signed : Expression → Sign → Frame
 
--- Where the reading stands, innermost parenthesis first: before an expression, behind one, or behind `0` alone.
+-- Where the reading stands, innermost parenthesis first: before an expression, after one, or after `0` alone.
 pub data Stand : Type 0 where
   before : List Frame → Stand
-  behind : Expression → List Frame → Stand
+  after : Expression → List Frame → Stand
   ended : Stand
 
 unfoldable pub closed : Expression → List Frame → Option Stand
 closed e [] = none
 closed e (opened ∷ fs) = none
-closed e (signed x s ∷ fs) = some (behind (binary s x e) fs)
+closed e (signed x s ∷ fs) = some (after (binary s x e) fs)
 
 unfoldable pub sign-read : Expression → Sign → List Frame → Option Stand
 sign-read e s [] = none
@@ -52,40 +52,40 @@ sign-read e s (opened ∷ fs) = some (before (signed e s ∷ fs))
 sign-read e s (signed x s′ ∷ fs) = none
 
 -- `0` stands only where nothing was read before it.
-unfoldable pub zero-read : List Frame → Option Stand
-zero-read [] = some ended
-zero-read (f ∷ fs) = none
+unfoldable pub ∅-read : List Frame → Option Stand
+∅-read [] = some ended
+∅-read (f ∷ fs) = none
 
 unfoldable pub next : Stand → Token → Option Stand
-unfolding closed sign-read zero-read
+unfolding closed sign-read ∅-read
 next (before fs) opening = some (before (opened ∷ fs))
 next (before fs) closing = none
 next (before fs) starring = none
-next (before fs) zero = zero-read fs
-next (before fs) unit = some (behind ε fs)
+next (before fs) ∅-token = ∅-read fs
+next (before fs) ε-token = some (after ε fs)
 next (before fs) other = none
 next (before fs) (signing s) = none
-next (before fs) (naming a) = some (behind (letter a) fs)
-next (behind e fs) opening = none
-next (behind e fs) closing = closed e fs
-next (behind e fs) starring = some (behind (star e) fs)
-next (behind e fs) zero = none
-next (behind e fs) unit = none
-next (behind e fs) other = none
-next (behind e fs) (signing s) = sign-read e s fs
-next (behind e fs) (naming a) = none
+next (before fs) (naming a) = some (after (letter a) fs)
+next (after e fs) opening = none
+next (after e fs) closing = closed e fs
+next (after e fs) starring = some (after (star e) fs)
+next (after e fs) ∅-token = none
+next (after e fs) ε-token = none
+next (after e fs) other = none
+next (after e fs) (signing s) = sign-read e s fs
+next (after e fs) (naming a) = none
 next ended k = none
 
 unfoldable pub open-at : Stand → ℕ
 open-at (before fs) = length fs
-open-at (behind e fs) = length fs
+open-at (after e fs) = length fs
 open-at ended = 0
 
 -- The text's end: 01, "or the text's length if it stops early".
 unfoldable pub finish : ℕ → Stand → Reading
 finish p (before fs) = refused (refusal not-grammar p)
-finish p (behind e []) = read e
-finish p (behind e (f ∷ fs)) = refused (refusal not-grammar p)
+finish p (after e []) = read e
+finish p (after e (f ∷ fs)) = refused (refusal not-grammar p)
 finish p ended = read ∅
 
 -- From byte p on, with k entries made before it.

@@ -42,8 +42,8 @@ fn two_states(states: usize, flag: u8, arcs: usize, from: &[u16], l: u8, t: u16,
 }
 
 // No arc; so many states, and so many words in the two work columns.
-fn no_arc(states: usize, words: usize, behind: usize)
-    requires { ⌜ (words ≤ 1100) × (behind ≤ 1100) ⌝ }
+fn no_arc(states: usize, words: usize, more: usize)
+    requires { ⌜ (words ≤ 1100) × (more ≤ 1100) ⌝ }
 {
     let accepting = [0u8; 65536];
     let from = [0u16; 1];
@@ -60,7 +60,7 @@ fn no_arc(states: usize, words: usize, behind: usize)
         &to,
         b"",
         &mut current[..words],
-        &mut next[..behind],
+        &mut next[..more],
     ));
 }
 

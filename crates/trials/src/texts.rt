@@ -85,7 +85,7 @@ fn shift(text: &mut [u8], n: usize)
     }
 }
 
-// The n bytes from 1 on stand again behind a sign.
+// The n bytes from 1 on stand again after a sign.
 fn again(text: &mut [u8], n: usize)
     requires { ⌜ n ≤ 2000 ⌝ }
 {

@@ -3,35 +3,23 @@ use borrow.Author.Needs.{needs}
 use Rattle.reader.proofs.clear.Statement.{statement}
 use Rattle.reader.proofs.clear.Tie as tie
 
-clear8-requires : tie.Need-clear8-requires
-clear8-requires c κs = search needs
+abbrev right-cleared : tie.After-slice-known6 → tie.After-clear162
+right-cleared c = c .before .before
 
-clear16-requires : tie.Need-clear16-requires
-clear16-requires c κs = search needs
+abbrev left-cleared : tie.After-clear162 → tie.After-left
+left-cleared c = c .before .before .before
 
-clear16-requires-2 : tie.Need-clear16-requires-2
-clear16-requires-2 c κs = search needs
-
-same-length : tie.Need-same-length
-same-length c = search needs
-
-same-length-2 : tie.Need-same-length-2
-same-length-2 c = search needs
-
-same-length-3 : tie.Need-same-length-3
-same-length-3 c = search needs
+abbrev kind-cleared : tie.After-left → tie.After-slice-known4
+kind-cleared c = c .before .before .before
 
 returns : tie.Need-returns
-returns c = cc (c .before .before .before .before .before .before .before .before .before .before .clear8 .ensures, c .before .before .before .before .before .before .clear16 .ensures, c .before .before .clear162 .ensures)
+returns c =
+    let right = right-cleared c in
+    let left = left-cleared right in
+    cc (kind-cleared left .before .before .clear8 .ensures, left .before .clear16 .ensures, right .clear162 .ensures)
 
 pub clear-spec : {M : Type 1} → statement M
 clear-spec =
     tie.close
-    (tie.spec
-    clear8-requires
-    clear16-requires
-    clear16-requires-2
-    same-length
-    same-length-2
-    same-length-3
-    returns)
+    (tie.spec (λ c κs. search needs) (λ c κs. search needs) (λ c κs. search needs)
+    (λ c. search needs) (λ c. search needs) (λ c. search needs) returns)

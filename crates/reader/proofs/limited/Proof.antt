@@ -2,93 +2,76 @@
 use borrow.Author.Needs.{needs}
 use native.Mathlib.Omega.{arith}
 use lib.ListN.{length}
-use Rattle.theory.specs.Table.{table}
+use Rattle.theory.specs.Table.{Table, table}
+use Rattle.reader.proofs.Laid.{left-by-call}
 use Rattle.reader.proofs.Whole as whole
 use Rattle.reader.proofs.limited.Statement.{statement}
 use Rattle.reader.proofs.limited.Tie as tie
 
-clear-requires : tie.Need-clear-requires
-clear-requires c κs = search needs
+-- ---- The places: the entry, the columns cleared, the text read
 
-same-length : tie.Need-same-length
-same-length c = search needs
+abbrev lending : tie.After-clear → tie.After-clear-arg
+lending c = c .before .before .before
 
-same-length-2 : tie.Need-same-length-2
-same-length-2 c = search needs
+abbrev known : tie.After-clear-arg → tie.After-slice-known
+known c = c .before .before .before
 
-same-length-3 : tie.Need-same-length-3
-same-length-3 c = search needs
+abbrev start : tie.After-clear → tie.Start
+start c = known (lending c) .before .before
 
-returns : tie.Need-returns
-returns c =
-    let a = c .before .before .before .before .before .before .before .before .before .before .before .before .before .before .before .args in
-    let called = c .before .before .before .before .before .before .before .clear in
-    let last = called .last in
-    whole.due-differ (a .text .now) (table (a .kind .now) (a .left .now) (a .right .now)) (table (last .0) (last .1 .0) (last .1 .1 .0)) (called .ensures) (whole.not-both _ _ _ (c .if1 .taken))
+abbrev lent : tie.Start → Table
+lent c = table (c .args .kind .now) (c .args .left .now) (c .args .right .now)
 
-same-length-4 : tie.Need-same-length-4
-same-length-4 c = search needs
+abbrev home : tie.After-slice-known6 → tie.After-left
+home c = c .before .before .before
 
-same-length-5 : tie.Need-same-length-5
-same-length-5 c = search needs
+abbrev cleared : tie.After-slice-known6 → tie.After-clear
+cleared c = home c .before .before .before
 
-same-length-6 : tie.Need-same-length-6
-same-length-6 c = search needs
+abbrev limiting : tie.After-whole-arg3 → tie.After-smaller
+limiting c = c .before .before .before
 
-returns-2 : tie.Need-returns-2
-returns-2 c =
-    let a = c .before .before .before .before .before .before .before .before .before .before .before .before .before .before .before .before .args in
-    let called = c .before .before .before .before .before .before .before .before .clear in
-    let last = called .last in
+abbrev whole-home : tie.After-slice-known9 → tie.After-left2
+whole-home c = c .before .before .before
+
+-- ---- The needs
+
+lengths-differ : tie.Need-returns
+lengths-differ c =
+    let called = cleared (c .before) in
+    whole.due-differ (start called .args .text .now) (lent (start called)) (left-by-call (called .clear .last)) (called .clear .ensures)
+    (whole.not-both _ _ _ (c .if1 .taken))
+
+too-long : tie.Need-returns-2
+too-long c =
+    let called = cleared (c .before .before) in
     let equal = whole.both-equal _ _ _ (c .before .if1 .left) in
-    whole.due-long (a .text .now) (table (a .kind .now) (a .left .now) (a .right .now)) (table (last .0) (last .1 .0) (last .1 .1 .0)) (called .ensures) (equal .0) (equal .1) (c .if2 .taken)
+    whole.due-long (start called .args .text .now) (lent (start called)) (left-by-call (called .clear .last)) (called .clear .ensures) (equal .0) (equal .1)
+    (c .if2 .taken)
 
-smaller-requires : tie.Need-smaller-requires
-smaller-requires c κs = search needs
-
-whole-requires : tie.Need-whole-requires
-whole-requires c κs =
-    let last = c .before .before .before .before .before .before .before .before .before .before .before .before .clear .last in
-    let equal = whole.both-equal (length (last .1 .0)) (length (last .1 .1 .0)) (length (last .0)) (c .before .before .before .before .before .if1 .left) in
-    let smaller = c .before .before .before .smaller .ensures in
+whole-asked : tie.Need-whole-requires
+whole-asked c κs =
+    let fits = limiting c .before in
+    let last = cleared (fits .before .before) .clear .last in
+    let equal = whole.both-equal (length (last .1 .0)) (length (last .1 .1 .0)) (length (last .0)) (fits .before .if1 .left) in
+    let smaller = limiting c .smaller .ensures in
     record { small = omega arith; kind = omega arith; left = omega arith; right = omega arith }
 
-same-length-7 : tie.Need-same-length-7
-same-length-7 c = search needs
-
-same-length-8 : tie.Need-same-length-8
-same-length-8 c = search needs
-
-same-length-9 : tie.Need-same-length-9
-same-length-9 c = search needs
-
-returns-3 : tie.Need-returns-3
-returns-3 c =
-    let a = c .before .before .before .before .before .before .before .before .before .before .before .before .before .before .before .before .before .before .before .before .before .before .before .before .before .before .before .args in
-    let called = c .before .before .before .before .before .before .before .before .before .before .before .before .before .before .before .before .before .before .before .clear in
-    let last = called .last in
-    let equal = whole.both-equal _ _ _ (c .before .before .before .before .before .before .before .before .before .before .before .before .if1 .left) in
-    let read = c .before .before .before .before .before .before .whole in
-    let last₂ = read .last .1 .1 in
-    whole.limited (a .text .now) (table (a .kind .now) (a .left .now) (a .right .now)) (table (last .0) (last .1 .0) (last .1 .1 .0)) (called .ensures) (equal .0) (equal .1) (c .before .before .before .before .before .before .before .before .before .before .before .if2 .left) (c .before .before .before .before .before .before .before .before .before .before .smaller .result)
-    (c .before .before .before .before .before .before .before .before .before .before .smaller .ensures) (read .result) (table (last₂ .0) (last₂ .1 .0) (last₂ .1 .1 .0)) (read .ensures)
+text-read : tie.Need-returns-3
+text-read c =
+    let read = whole-home c .before .before .before in
+    let room = limiting (read .before) in
+    let called = cleared (room .before .before .before) in
+    let equal = whole.both-equal _ _ _ (room .before .before .if1 .left) in
+    whole.limited (start called .args .text .now) (lent (start called)) (left-by-call (called .clear .last)) (called .clear .ensures) (equal .0) (equal .1)
+    (room .before .if2 .left) (room .smaller .result) (room .smaller .ensures) (read .whole .result) (left-by-call (read .whole .last .1 .1))
+    (read .whole .ensures)
 
 pub limited-spec : {M : Type 1} → statement M
 limited-spec =
     tie.close
-    (tie.spec
-    clear-requires
-    same-length
-    same-length-2
-    same-length-3
-    returns
-    same-length-4
-    same-length-5
-    same-length-6
-    returns-2
-    smaller-requires
-    whole-requires
-    same-length-7
-    same-length-8
-    same-length-9
-    returns-3)
+    (tie.spec (λ c κs. search needs)
+    (λ c. search needs) (λ c. search needs) (λ c. search needs) lengths-differ
+    (λ c. search needs) (λ c. search needs) (λ c. search needs) too-long
+    (λ c κs. search needs) whole-asked
+    (λ c. search needs) (λ c. search needs) (λ c. search needs) text-read)

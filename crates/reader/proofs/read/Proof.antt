@@ -1,69 +1,60 @@
--- `read` answers the reading that is due, and clears the columns after a refusal.
+-- `read` answers what `limited` found, and clears the columns where it is a refusal.
 use borrow.Author.Needs.{needs}
-use Rattle.theory.specs.Table.{table}
+use Rattle.theory.specs.Table.{Table, table}
+use Rattle.reader.proofs.Laid.{left-by-call}
 use Rattle.reader.proofs.Whole.{read-answers, refused-answers}
 use Rattle.reader.proofs.read.Statement.{statement}
 use Rattle.reader.proofs.read.Tie as tie
 
-limited-requires : tie.Need-limited-requires
-limited-requires c κs = search needs
+-- ---- The places: the entry, the text read, the columns cleared
 
-enum-known-found : tie.Need-enum-known-found
-enum-known-found c = search needs
+abbrev lending : tie.After-limited → tie.After-limited-arg
+lending c = c .before .before .before
 
-enum-known-found-2 : tie.Need-enum-known-found-2
-enum-known-found-2 c = search needs
+abbrev known : tie.After-limited-arg → tie.After-slice-known
+known c = c .before .before .before
 
-clear-requires : tie.Need-clear-requires
-clear-requires c κs = search needs
+abbrev start : tie.After-limited → tie.Start
+start c = known (lending c) .before .before
 
-same-length : tie.Need-same-length
-same-length c = search needs
+abbrev lent : tie.Start → Table
+lent c = table (c .args .kind .now) (c .args .left .now) (c .args .right .now)
 
-same-length-2 : tie.Need-same-length-2
-same-length-2 c = search needs
+abbrev home : tie.After-slice-known6 → tie.After-left
+home c = c .before .before .before
 
-same-length-3 : tie.Need-same-length-3
-same-length-3 c = search needs
+abbrev limited : tie.After-slice-known6 → tie.After-limited
+limited c = home c .before .before .before
 
-returns : tie.Need-returns
-returns c =
-    let a = c .before .before .before .before .before .before .before .before .before .before .before .before .before .before .before .before .before .args in
-    let called = c .before .before .before .before .before .before .before .before .before .limited in
-    let last = called .last .1 in
-    read-answers (a .text .now) (table (a .kind .now) (a .left .now) (a .right .now)) (table (last .0) (last .1 .0) (last .1 .1 .0)) (called .result) (called .ensures) _ _ (c .before .found .given .1)
+abbrev clear-home : tie.After-slice-known9 → tie.After-left2
+clear-home c = c .before .before .before
 
-same-length-4 : tie.Need-same-length-4
-same-length-4 c = search needs
+abbrev cleared : tie.After-slice-known9 → tie.After-clear
+cleared c = clear-home c .before .before .before
 
-same-length-5 : tie.Need-same-length-5
-same-length-5 c = search needs
+abbrev clearing : tie.After-clear → tie.After-clear-arg
+clearing c = c .before .before .before
 
-same-length-6 : tie.Need-same-length-6
-same-length-6 c = search needs
+-- ---- The needs
 
-returns-2 : tie.Need-returns-2
-returns-2 c =
-    let a = c .before .before .before .before .before .before .before .before .before .before .before .before .before .before .before .before .before .before .before .before .before .before .before .before .before .before .before .args in
-    let called = c .before .before .before .before .before .before .before .before .before .before .before .before .before .before .before .before .before .before .before .limited in
-    let last = called .last .1 in
-    let zero = c .before .before .before .before .before .before .clear in
-    refused-answers (a .text .now) (table (a .kind .now) (a .left .now) (a .right .now)) (table (last .0) (last .1 .0) (last .1 .1 .0)) (called .result) (called .ensures) _ _ (c .before .before .before .before .before .before .before .before .before .before .before .found2 .given .1)
-    (table (zero .last .0) (zero .last .1 .0) (zero .last .1 .1 .0)) (zero .ensures) (called .kept .1 .0) (called .kept .1 .1 .0) (called .kept .1 .1 .1 .0)
+text-read : tie.Need-returns
+text-read c =
+    let called = limited (c .before .before .before) in
+    read-answers (start called .args .text .now) (lent (start called)) (left-by-call (called .limited .last .1)) (called .limited .result)
+    (called .limited .ensures) _ _ (c .before .found .given .1)
+
+text-refused : tie.Need-returns-2
+text-refused c =
+    let zeros = cleared c .clear in
+    let refusal = clearing (cleared c) .before .before in
+    let called = limited (refusal .before .before) in
+    let kept = called .limited .kept .1 in
+    refused-answers (start called .args .text .now) (lent (start called)) (left-by-call (called .limited .last .1)) (called .limited .result)
+    (called .limited .ensures) _ _ (refusal .found2 .given .1) (left-by-call (zeros .last)) (zeros .ensures) (kept .0) (kept .1 .0) (kept .1 .1 .0)
 
 pub read-spec : {M : Type 1} → statement M
 read-spec =
     tie.close
-    (tie.spec
-    limited-requires
-    enum-known-found
-    enum-known-found-2
-    clear-requires
-    same-length
-    same-length-2
-    same-length-3
-    returns
-    same-length-4
-    same-length-5
-    same-length-6
-    returns-2)
+    (tie.spec (λ c κs. search needs) (λ c. search needs) (λ c. search needs) (λ c κs. search needs)
+    (λ c. search needs) (λ c. search needs) (λ c. search needs) text-read
+    (λ c. search needs) (λ c. search needs) (λ c. search needs) text-refused)

@@ -9,15 +9,15 @@ use borrow.Author.Tests.{eqb-true, ne-eqb}
 use mir.Facts.{and-yes, or-yes}
 use Rattle.theory.specs.Expression.{union, concatenation, shuffle}
 use Rattle.theory.specs.Grammar.{byte-open, byte-close, byte-*, byte-+, byte-dot, byte-&, byte-0, byte-1, is-letter, sign-byte}
-use Rattle.theory.specs.Scan.{Token, opening, closing, starring, zero, unit, other, signing, naming, token}
+use Rattle.theory.specs.Scan.{Token, opening, closing, starring, ∅-token, ε-token, other, signing, naming, token}
 
 -- The byte that a token was made of.
 abbrev pub Made-of : Token → ℕ → Type 0
 Made-of opening b = b ≡ byte-open
 Made-of closing b = b ≡ byte-close
 Made-of starring b = b ≡ byte-*
-Made-of zero b = b ≡ byte-0
-Made-of unit b = b ≡ byte-1
+Made-of ∅-token b = b ≡ byte-0
+Made-of ε-token b = b ≡ byte-1
 Made-of other b = Unit {0}
 Made-of (signing s) b = b ≡ sign-byte s
 Made-of (naming a) b = (b ≡ a) × T (is-letter a)
@@ -32,8 +32,8 @@ token-made-of b =
     at byte-open opening _ (λ e. e)
     (at byte-close closing _ (λ e. e)
     (at byte-* starring _ (λ e. e)
-    (at byte-0 zero _ (λ e. e)
-    (at byte-1 unit _ (λ e. e)
+    (at byte-0 ∅-token _ (λ e. e)
+    (at byte-1 ε-token _ (λ e. e)
     (at byte-+ (signing union) _ (λ e. e)
     (at byte-dot (signing concatenation) _ (λ e. e)
     (at byte-& (signing shuffle) _ (λ e. e)

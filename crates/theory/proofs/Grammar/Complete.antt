@@ -8,6 +8,7 @@ use mathlib.Core.List.{[], _∷_, _++_, append-nil}
 use mathlib.Core.Option.{some}
 use lib.ListN.{length, take, drop, getD}
 use lib.Seq.{append-snoc, split-at, take-suc, length-take-le, take-length}
+use Rattle.theory.specs.Limit.{most-open}
 use Rattle.theory.specs.Refusal.{refusal, not-grammar, too-deep, too-many-entries}
 use Rattle.theory.specs.Grammar.{Text, Viable, Whole, Reading, read, refused, depth, made, Passed, Reads, whole, broken, stopped, deep, many}
 use Rattle.theory.specs.Scan.{Stand, before, finish, scan-from, scan}
@@ -28,31 +29,31 @@ scan-passes room (b ∷ u) v s c c′ r r′ p =
     ∙ (rw append-snoc at (scan-passes room u v (s ++ b ∷ []) (here .0) c′ (here .1) (rw append-snoc r′) p₁))
 
 module _ (room : ℕ) (s : Text) (passed : Passed room s) where
-  -- What the scan answers behind s, wherever it stands there, it answers of the whole text.
-  scan-behind : (t : Text) (q : Reading) → ((c : Stand) → run start s ≡ some c → scan-from room (length s) (made s) c t ≡ q)
+  -- What the scan answers after s, wherever it stands there, it answers of the whole text.
+  scan-after : (t : Text) (q : Reading) → ((c : Stand) → run start s ≡ some c → scan-from room (length s) (made s) c t ≡ q)
       → scan room (s ++ t) ≡ q
   unfolding scan run made
-  scan-behind t q answer =
+  scan-after t q answer =
       let here = viable-run s (passed .viable) in
       scan-passes room s t [] (before []) (here .0) refl (here .1) passed ∙ answer (here .0) (here .1)
 
   scan-end : (q : Reading) → ((c : Stand) → run start s ≡ some c → finish (length s) c ≡ q) → scan room s ≡ q
   unfolding scan-from
-  scan-end q answer = rw append-nil at (scan-behind [] q answer)
+  scan-end q answer = rw append-nil at (scan-after [] q answer)
 
   scan-broken : (b : ℕ) (t : Text) → ¬ (Viable (s ++ b ∷ [])) → scan room (s ++ b ∷ t) ≡ refused (refusal not-grammar (length s))
-  scan-broken b t n = scan-behind (b ∷ t) _ (λ c r. step-broken room s c r b t (not-viable-run (s ++ b ∷ []) n))
+  scan-broken b t n = scan-after (b ∷ t) _ (λ c r. step-broken room s c r b t (not-viable-run (s ++ b ∷ []) n))
 
-  scan-deep : (b : ℕ) (t : Text) → Viable (s ++ b ∷ []) → 64 < depth (s ++ b ∷ []) → scan room (s ++ b ∷ t) ≡ refused (refusal too-deep (length s))
-  scan-deep b t v d = let on = viable-run (s ++ b ∷ []) v in scan-behind (b ∷ t) _ (λ c r. step-deep room s c r b t (on .0) (on .1) d)
+  scan-deep : (b : ℕ) (t : Text) → Viable (s ++ b ∷ []) → most-open < depth (s ++ b ∷ []) → scan room (s ++ b ∷ t) ≡ refused (refusal too-deep (length s))
+  scan-deep b t v d = let on = viable-run (s ++ b ∷ []) v in scan-after (b ∷ t) _ (λ c r. step-deep room s c r b t (on .0) (on .1) d)
 
   scan-many : (b : ℕ) (t : Text) → Viable (s ++ b ∷ []) → room < made (s ++ b ∷ [])
       → scan room (s ++ b ∷ t) ≡ refused (refusal too-many-entries (length s))
   scan-many b t v m =
       let on = viable-run (s ++ b ∷ []) v in
       let deeper = entry-not-deeper s b (omega (arith, passed .fits)) in
-      let d : depth (s ++ b ∷ []) ≤ 64 = omega (arith, rw take-length at (passed .shallow (length s))) in
-      scan-behind (b ∷ t) _ (λ c r. step-many room s c r b t (on .0) (on .1) d m)
+      let d : depth (s ++ b ∷ []) ≤ most-open = omega (arith, rw take-length at (passed .shallow (length s))) in
+      scan-after (b ∷ t) _ (λ c r. step-many room s c r b t (on .0) (on .1) d m)
 
 unfinished : (s : Text) (c : Stand) → run start s ≡ some c → ¬ (Whole s) → finish (length s) c ≡ refused (refusal not-grammar (length s))
 unfinished s c r n = elim (end-decides s c r (length s)) [ inl h ↦ absurd (n (h .0)) | inr h ↦ h .1 ]

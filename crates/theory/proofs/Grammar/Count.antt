@@ -11,7 +11,7 @@ use lib.Dec.{T, eqb}
 use Rattle.theory.specs.Expression.{Expression, Sign, union, concatenation, shuffle, ∅, ε, letter, binary, star, entries}
 use Rattle.theory.specs.Table.{times}
 use Rattle.theory.specs.Grammar.{Text, written, sign-byte, byte-open, byte-close, byte-+, byte-dot, byte-&, Inner, Writable, is-letter, depth, makes-entry, made}
-use Rattle.theory.specs.Scan.{Stand, before, behind, ended, Frame, opened, signed, open-at}
+use Rattle.theory.specs.Scan.{Stand, before, after, ended, Frame, opened, signed, open-at}
 use Rattle.theory.proofs.Times.{cond-suc-add, times-append}
 use Rattle.theory.proofs.Grammar.Bytes.{letter-not}
 use Rattle.theory.proofs.Grammar.Run.{run, start}
@@ -54,10 +54,10 @@ frames-open (signed x s ∷ fs) i =
 stand-open : (c : Stand) → Inner-stand c → times byte-open (spell c) ≡ times byte-close (spell c) + open-at c
 unfolding times spell open-at
 stand-open (before fs) i = frames-open fs i
-stand-open (behind e fs) i = simp times-append (omega (arith, frames-open fs (i .1), balanced e (i .0)))
+stand-open (after e fs) i = simp times-append (omega (arith, frames-open fs (i .1), balanced e (i .0)))
 stand-open ended i = refl
 
--- The parentheses open behind a text that the reading ran over are the stand's.
+-- The parentheses open after a text that the reading ran over are the stand's.
 pub depth-run : (s : Text) (c : Stand) → run start s ≡ some c → depth s ≡ open-at c
 unfolding depth
 depth-run s c r = let h = spelled s c r in rw (← (h .1)) (omega (arith, stand-open c (h .0)))

@@ -1,11 +1,11 @@
--- The reading as a fold of `next` over a text: the text of an expression leads from before it to behind it.
+-- The reading as a fold of `next` over a text: the text of an expression leads from before it to after it.
 use mathlib.Core.Path.{_≡_, refl}
 use mathlib.Core.List.{List, [], _∷_, _++_}
 use mathlib.Core.Option.{Option, none, some}
 use Prim.Native.Nat.{ℕ}
 use Rattle.theory.specs.Expression.{Expression, Sign, union, concatenation, shuffle, ∅, ε, letter, binary, star}
 use Rattle.theory.specs.Grammar.{Text, written, sign-byte, Inner, Writable, read}
-use Rattle.theory.specs.Scan.{Stand, before, behind, ended, Frame, opened, signed, next, token, finish}
+use Rattle.theory.specs.Scan.{Stand, before, after, ended, Frame, opened, signed, next, token, finish}
 use Rattle.theory.proofs.Grammar.Bytes.{token-letter}
 
 unfoldable pub step : Option Stand → ℕ → Option Stand
@@ -32,14 +32,14 @@ run-none [] = refl
 run-none (b ∷ t) = run-none t
 
 run-sign : (x : Expression) (s : Sign) (fs : List Frame) (t : Text)
-    → run (some (behind x (opened ∷ fs))) (sign-byte s ∷ t) ≡ run (some (before (signed x s ∷ fs))) t
+    → run (some (after x (opened ∷ fs))) (sign-byte s ∷ t) ≡ run (some (before (signed x s ∷ fs))) t
 unfolding run sign-byte
 run-sign x union fs t = refl
 run-sign x concatenation fs t = refl
 run-sign x shuffle fs t = refl
 
--- The reading goes on from before an expression, over its text, to behind it.
-pub run-inner : (e : Expression) → Inner e → (fs : List Frame) → run (some (before fs)) (written e) ≡ some (behind e fs)
+-- The reading goes on from before an expression, over its text, to after it.
+pub run-inner : (e : Expression) → Inner e → (fs : List Frame) → run (some (before fs)) (written e) ≡ some (after e fs)
 unfolding run written
 run-inner ∅ i fs = absurd i
 run-inner ε i fs = refl
@@ -48,13 +48,13 @@ run-inner (binary s x y) i fs =
     rw (run-append, run-inner x (i .0) (opened ∷ fs), run-sign, run-append, run-inner y (i .1) (signed x s ∷ fs))
 run-inner (star x) i fs = rw (run-append, run-inner x i fs)
 
--- Where the reading stands behind a whole text.
+-- Where the reading stands after a whole text.
 unfoldable pub whole-stand : Expression → Stand
 whole-stand ∅ = ended
-whole-stand ε = behind ε []
-whole-stand (letter a) = behind (letter a) []
-whole-stand (binary s x y) = behind (binary s x y) []
-whole-stand (star x) = behind (star x) []
+whole-stand ε = after ε []
+whole-stand (letter a) = after (letter a) []
+whole-stand (binary s x y) = after (binary s x y) []
+whole-stand (star x) = after (star x) []
 
 pub run-whole : (e : Expression) → Writable e → run start (written e) ≡ some (whole-stand e)
 unfolding run written whole-stand

@@ -9,6 +9,7 @@ use mathlib.Core.List.{[], _∷_, _++_, append-assoc, append-nil}
 use mathlib.Core.Option.{Option, none, some}
 use lib.ListN.{length, take, length-append}
 use lib.Seq.{take-append-seam, take-append-add}
+use Rattle.theory.specs.Limit.{most-open}
 use Rattle.theory.specs.Grammar.{Text, depth, made, Passed, Reads, whole, broken, stopped, deep, many}
 use Rattle.theory.specs.Scan.{Stand, finish, scan-from}
 use Rattle.theory.proofs.Grammar.Run.{run, start}
@@ -36,7 +37,7 @@ module _ (room : ℕ) (s : Text) (c : Stand) (r : run start s ≡ some c) (passe
   before-byte : Passed room (take (length s) (s ++ b ∷ t))
   before-byte = rw take-append-seam passed
 
-  byte-reads : (o : Option Stand) → run start (s ++ b ∷ []) ≡ o → Dec (64 < depth (s ++ b ∷ [])) → Dec (room < made (s ++ b ∷ []))
+  byte-reads : (o : Option Stand) → run start (s ++ b ∷ []) ≡ o → Dec (most-open < depth (s ++ b ∷ [])) → Dec (room < made (s ++ b ∷ []))
       → ((c′ : Stand) → run start (s ++ b ∷ []) ≡ some c′ → Passed room (s ++ b ∷ [])
       → Reads room (s ++ b ∷ t) (scan-from room (length (s ++ b ∷ [])) (made (s ++ b ∷ [])) c′ t))
       → Reads room (s ++ b ∷ t) (scan-from room (length s) (made s) c (b ∷ t))
@@ -51,11 +52,11 @@ module _ (room : ℕ) (s : Text) (c : Stand) (r : run start s ≡ some c) (passe
       rw (step-on room s c r b t c′ e (omega arith) (omega arith))
       (rest c′ e (passed-on room s b passed (run-viable (s ++ b ∷ []) c′ e) (omega arith) (omega arith)))
 
--- From behind any start that passes.
+-- From after any start that passes.
 pub scan-from-reads : (room : ℕ) (t s : Text) (c : Stand) → run start s ≡ some c → Passed room s
     → Reads room (s ++ t) (scan-from room (length s) (made s) c t)
 unfolding scan-from
 scan-from-reads room [] s c r p = rw append-nil (finish-reads room s c r p)
 scan-from-reads room (b ∷ t) s c r p =
-    byte-reads room s c r p b t (run start (s ++ b ∷ [])) refl (decLt 64 (depth (s ++ b ∷ []))) (decLt room (made (s ++ b ∷ [])))
+    byte-reads room s c r p b t (run start (s ++ b ∷ [])) refl (decLt most-open (depth (s ++ b ∷ []))) (decLt room (made (s ++ b ∷ [])))
     (λ c′ r′ p′. rw append-assoc at (scan-from-reads room t (s ++ b ∷ []) c′ r′ p′))

@@ -7,7 +7,7 @@ use Prim.Native.Nat.{ℕ}
 use native.Mathlib.Omega.{arith}
 use Rattle.theory.specs.Expression.{Expression, union, ∅, ε, letter, binary, star}
 use Rattle.theory.specs.Grammar.{Text, written, sign-byte, byte-open, byte-close, byte-+, byte-0, byte-1, Inner, Writable, Whole, Viable}
-use Rattle.theory.specs.Scan.{Token, opening, closing, starring, zero, unit, other, signing, naming, Stand, before, behind, ended, Frame, opened, signed, next, token}
+use Rattle.theory.specs.Scan.{Token, opening, closing, starring, ∅-token, ε-token, other, signing, naming, Stand, before, after, ended, Frame, opened, signed, next, token}
 use Rattle.theory.proofs.Grammar.Bytes.{Made-of, token-made-of}
 use Rattle.theory.proofs.Grammar.Run.{step, run, start, run-append, run-none, run-whole, whole-stand}
 
@@ -23,7 +23,7 @@ spell-frames (signed x s ∷ fs) = spell-frames fs ++ byte-open ∷ (written x +
 unfoldable pub spell : Stand → Text
 unfolding spell-frames
 spell (before fs) = spell-frames fs
-spell (behind e fs) = spell-frames fs ++ written e
+spell (after e fs) = spell-frames fs ++ written e
 spell ended = byte-0 ∷ []
 
 -- The expressions of a stand are of the grammar.
@@ -34,7 +34,7 @@ Inner-frames (signed x s ∷ fs) = Inner x × Inner-frames fs
 
 abbrev pub Inner-stand : Stand → Type 0
 Inner-stand (before fs) = Inner-frames fs
-Inner-stand (behind e fs) = Inner e × Inner-frames fs
+Inner-stand (after e fs) = Inner e × Inner-frames fs
 Inner-stand ended = Unit {0}
 
 -- ---- The stand after a text spells it
@@ -49,24 +49,24 @@ unfolding next spell written
 next-spells (before fs) opening b m i = (i, rw m)
 next-spells (before fs) closing b m i = tt
 next-spells (before fs) starring b m i = tt
-next-spells (before []) zero b m i = (tt, rw m)
-next-spells (before (f ∷ fs)) zero b m i = tt
-next-spells (before fs) unit b m i = ((tt, i), rw m)
+next-spells (before []) ∅-token b m i = (tt, rw m)
+next-spells (before (f ∷ fs)) ∅-token b m i = tt
+next-spells (before fs) ε-token b m i = ((tt, i), rw m)
 next-spells (before fs) other b m i = tt
 next-spells (before fs) (signing s) b m i = tt
 next-spells (before fs) (naming a) b m i = ((m .1, i), rw (m .0))
-next-spells (behind e fs) opening b m i = tt
-next-spells (behind e []) closing b m i = tt
-next-spells (behind e (opened ∷ fs)) closing b m i = tt
-next-spells (behind e (signed x s ∷ fs)) closing b m i = (((i .1 .0, i .0), i .1 .1), rw m (simp append-assoc))
-next-spells (behind e fs) starring b m i = (i, rw m (simp append-assoc))
-next-spells (behind e fs) zero b m i = tt
-next-spells (behind e fs) unit b m i = tt
-next-spells (behind e fs) other b m i = tt
-next-spells (behind e []) (signing s) b m i = tt
-next-spells (behind e (opened ∷ fs)) (signing s) b m i = (i, rw m (simp append-assoc))
-next-spells (behind e (signed x s ∷ fs)) (signing s′) b m i = tt
-next-spells (behind e fs) (naming a) b m i = tt
+next-spells (after e fs) opening b m i = tt
+next-spells (after e []) closing b m i = tt
+next-spells (after e (opened ∷ fs)) closing b m i = tt
+next-spells (after e (signed x s ∷ fs)) closing b m i = (((i .1 .0, i .0), i .1 .1), rw m (simp append-assoc))
+next-spells (after e fs) starring b m i = (i, rw m (simp append-assoc))
+next-spells (after e fs) ∅-token b m i = tt
+next-spells (after e fs) ε-token b m i = tt
+next-spells (after e fs) other b m i = tt
+next-spells (after e []) (signing s) b m i = tt
+next-spells (after e (opened ∷ fs)) (signing s) b m i = (i, rw m (simp append-assoc))
+next-spells (after e (signed x s ∷ fs)) (signing s′) b m i = tt
+next-spells (after e fs) (naming a) b m i = tt
 next-spells ended k b m i = tt
 
 step-spells : (o : Option Stand) (s : Text) (b : ℕ) → Spells s o → Spells (s ++ b ∷ []) (step o b)
@@ -98,16 +98,16 @@ inner-writable (letter a) i = i
 inner-writable (binary s x y) i = i
 inner-writable (star x) i = i
 
-whole-behind : (e : Expression) (fs : List Frame) → Inner e → Inner-frames fs → Whole (spell-frames fs ++ written e ++ closers fs)
+whole-after : (e : Expression) (fs : List Frame) → Inner e → Inner-frames fs → Whole (spell-frames fs ++ written e ++ closers fs)
 unfolding spell-frames written closers
-whole-behind e [] i is = (e, inner-writable e i, rw append-nil)
-whole-behind e (opened ∷ fs) i is = simp append-assoc (simp append-assoc at (whole-behind (binary union e ε) fs (i, tt) is))
-whole-behind e (signed x s ∷ fs) i is = simp append-assoc (simp append-assoc at (whole-behind (binary s x e) fs (is .0, i) (is .1)))
+whole-after e [] i is = (e, inner-writable e i, rw append-nil)
+whole-after e (opened ∷ fs) i is = simp append-assoc (simp append-assoc at (whole-after (binary union e ε) fs (i, tt) is))
+whole-after e (signed x s ∷ fs) i is = simp append-assoc (simp append-assoc at (whole-after (binary s x e) fs (is .0, i) (is .1)))
 
 stand-viable : (c : Stand) → Inner-stand c → Viable (spell c)
 unfolding spell written
-stand-viable (before fs) i = (byte-1 ∷ closers fs, simp append-assoc at (whole-behind ε fs tt i))
-stand-viable (behind e fs) i = (closers fs, whole-behind e fs (i .0) (i .1))
+stand-viable (before fs) i = (byte-1 ∷ closers fs, simp append-assoc at (whole-after ε fs tt i))
+stand-viable (after e fs) i = (closers fs, whole-after e fs (i .0) (i .1))
 stand-viable ended i = ([], (∅, tt, refl))
 
 pub run-viable : (s : Text) (c : Stand) → run start s ≡ some c → Viable s

@@ -1,64 +1,41 @@
+-- `number` puts the digits of the number and then the byte.
 use borrow.Author.Needs.{needs}
 use native.Mathlib.Omega.{arith}
-use Rattle.lines.proofs.Decimal.{twenty-digits}
-use Rattle.lines.proofs.Putting.{Numbered, numbered}
+use mathlib.Core.Path.{_≡_, ap}
+use mathlib.Core.List.{_∷_, []}
+use lib.ListN.{length, take, length-append}
+use Rattle.theory.specs.Lines.{decimal}
+use Rattle.lines.proofs.Putting.{number-text, Numbered, numbered}
 use Rattle.lines.proofs.output.number.Statement.{statement}
 use Rattle.lines.proofs.output.number.Tie as tie
 
--- ---- The places behind the call of `word`: that call, the digits before it, the entry
+-- ---- The places: the entry, the digits, the word put
 
-abbrev digits : tie.After-slice-known2 → tie.After-decimal
-digits c = c .before .before .before .before .before
+abbrev start : tie.After-decimal → tie.Start
+start c = c .before .before .before
 
-abbrev entry : tie.After-slice-known2 → tie.Start
-entry c = digits c .before .before .before
+abbrev spelled : tie.After-digits2 → tie.After-decimal
+spelled c = c .before .before
+
+text : (c : tie.After-decimal) → take (c .decimal .result) (c .decimal .last .1 .0) ≡ decimal (start c .args .n)
+text c = number-text _ _ _ (c .decimal .ensures .1 .0) (c .decimal .ensures .1 .1)
 
 put : (c : tie.After-slice-known2)
-    → Numbered (entry c .args .block .now) (entry c .args .used) (c .before .before .word .last .0) (c .before .before .word .result) (entry c .args .n)
-    (entry c .args .behind)
+    → let word = c .before .before in let s = start (spelled (word .before)) .args in
+    Numbered (s .block .now) (s .used) (word .word .last .0) (word .word .result) (s .n) (s .after)
 put c =
-    let spelled = digits c .decimal in
-    numbered _ _ _ _ (entry c .fits .n .fits) (spelled .ensures .0 .0) (spelled .ensures .1 .0) (spelled .ensures .1 .1) (entry c .pre)
-    (c .before .before .word .ensures)
+    let word = c .before .before in
+    let spelled = spelled (word .before) in numbered (text spelled) (start spelled .pre) (word .word .ensures)
 
 -- ---- The needs
 
-decimal-requires : tie.Need-decimal-requires
-decimal-requires c κs = search needs
-
-array-share-prefix-digits : tie.Need-array-share-prefix-digits
-array-share-prefix-digits c = search needs
-
-slice-aggregate-word : tie.Need-slice-aggregate-word
-slice-aggregate-word c = search needs
-
-word-requires : tie.Need-word-requires
-word-requires c κs =
-    let spelled = c .before .before .decimal in
-    let entry = c .before .before .before .before .before in
-    omega (arith, spelled .ensures .0 .1, twenty-digits _ _ (entry .fits .n .fits) (spelled .ensures .1 .0), entry .pre)
-
-slice-write-block : tie.Need-slice-write-block
-slice-write-block c = put c .inside
-
-add-result : tie.Need-add-result
-add-result c = omega (arith, put c .inside)
-
-same-length : tie.Need-same-length
-same-length c = search needs
-
-returns : tie.Need-returns
-returns c = (put c .put, put c .short)
+word-asked : tie.Need-word-requires
+word-asked c κs =
+    let s = start (spelled c) in
+    omega (arith, ap length (text (spelled c)), length-append (decimal (s .args .n)) (s .args .after ∷ []), s .pre)
 
 pub number-spec : {M : Type 1} → statement M
 number-spec =
     tie.close
-    (tie.spec
-    decimal-requires
-    array-share-prefix-digits
-    slice-aggregate-word
-    word-requires
-    slice-write-block
-    add-result
-    same-length
-    returns)
+    (tie.spec (λ c κs. search needs) (λ c. search needs) (λ c. search needs) word-asked
+    (λ c. put c .inside) (λ c. omega (arith, put c .inside)) (λ c. search needs) (λ c. put c .put))

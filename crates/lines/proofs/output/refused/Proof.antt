@@ -1,50 +1,59 @@
+-- `refused` puts the word, the number and the place.
 use borrow.Author.Needs.{needs}
 use native.Mathlib.Omega.{arith}
-use Rattle.lines.proofs.Putting.{put-then}
+use Rattle.theory.specs.Refusal.{refusal}
+use Rattle.theory.specs.Lines.{space, newline}
+use Rattle.lines.proofs.Putting.{put-then, number-short, refusal-short}
 use Rattle.lines.proofs.output.refused.Statement.{statement}
 use Rattle.lines.proofs.output.refused.Tie as tie
 
--- ---- The places behind the last call: the three calls, the entry
+-- ---- The places: the entry, the three calls
 
-abbrev placed : tie.After-slice-known4 → tie.After-number2
-placed c = c .before .before
+abbrev lending : tie.After-word → tie.After-slice-known
+lending c = c .before .before .before
 
-abbrev numbered : tie.After-slice-known4 → tie.After-number
-numbered c = placed c .before .before .before .before
+abbrev start : tie.After-word → tie.Start
+start c = lending c .before
 
-abbrev said : tie.After-slice-known4 → tie.After-word
-said c = numbered c .before .before .before .before
+abbrev said : tie.After-number-arg → tie.After-word
+said c = c .before .before .before
+
+abbrev numbered : tie.After-number-arg2 → tie.After-number
+numbered c = c .before .before .before
 
 -- ---- The needs
 
-slice-aggregate-word : tie.Need-slice-aggregate-word
-slice-aggregate-word c = search needs
+number-asked : tie.Need-number-requires
+number-asked c κs =
+    let s = start (said c) in
+    omega (arith, number-short (s .args .number) space (omega (arith, s .fits .number)), said c .word .ensures .count, said c .word .kept .0, s .pre)
 
-word-requires : tie.Need-word-requires
-word-requires c κs = search needs
-
-number-requires : tie.Need-number-requires
-number-requires c κs = search needs
-
-number-requires-2 : tie.Need-number-requires-2
-number-requires-2 c κs = search needs
-
-same-length : tie.Need-same-length
-same-length c = search needs
+place-asked : tie.Need-number-requires-2
+place-asked c κs =
+    let n = numbered c in
+    let w = said (n .before) in
+    let s = start w in
+    omega (
+      arith,
+      number-short (s .args .number) space (omega (arith, s .fits .number)),
+      number-short (s .args .place) newline (omega (arith, s .fits .place)),
+      w .word .ensures .count,
+      w .word .kept .0,
+      n .number .ensures .count,
+      n .number .kept .0,
+      s .pre,
+    )
 
 returns : tie.Need-returns
 returns c =
-    let w = said c .word .ensures in
-    let n = numbered c .number .ensures in
-    let p = placed c .number2 .ensures in (put-then (put-then w (n .0)) (p .0), omega (arith, w .count, n .1, p .1))
+    let p = c .before .before in
+    let n = numbered (p .before) in
+    let w = said (n .before) in
+    let s = start w in
+    let line = put-then (put-then (w .word .ensures) (n .number .ensures)) (p .number2 .ensures) in
+    let short = refusal-short (refusal (s .args .number) (s .args .place)) (omega (arith, s .fits .number)) (omega (arith, s .fits .place)) in
+    (line, omega (arith, line .count))
 
 pub refused-spec : {M : Type 1} → statement M
 refused-spec =
-    tie.close
-    (tie.spec
-    slice-aggregate-word
-    word-requires
-    number-requires
-    number-requires-2
-    same-length
-    returns)
+    tie.close (tie.spec (λ c. search needs) (λ c κs. search needs) number-asked place-asked (λ c. search needs) returns)

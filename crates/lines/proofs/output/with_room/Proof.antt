@@ -1,30 +1,37 @@
+-- `with_room` hands on all that is used, or leaves a line's room.
 use borrow.Author.Needs.{needs}
 use Prim.Native.Nat.{_-_}
 use native.Mathlib.Omega.{arith}
 use borrow.Author.Tests.{ltb-false}
-use mathlib.Core.Logic.{inl, inr}
-use mathlib.Core.Path.{refl, sym}
+use mathlib.Core.Path.{refl, sym, subst, _∙_}
 use lib.ListN.{length}
 use lib.Seq.{length-take-le}
-use Rattle.theory.proofs.Tests.{or-right}
+use Rattle.theory.proofs.Tests.{or-left, or-right}
+use Rattle.lines.specs.declared.output.Written.{Written}
+use Rattle.lines.specs.Output.{line-room, Wrote}
 use Rattle.lines.proofs.output.with_room.Statement.{statement}
 use Rattle.lines.proofs.output.with_room.Tie as tie
 
-sub-if1 : tie.Need-sub-if1
-sub-if1 c = search needs
+abbrev start : tie.After-write-arg → tie.Start
+start c = c .before .before .before
 
-slice-aggregate-write-all : tie.Need-slice-aggregate-write-all
-slice-aggregate-write-all c = sym (length-take-le _ _ (c .before .before .before .pre .0))
+handed : tie.Need-slice-aggregate-write
+handed c = sym (length-take-le _ _ (start c .pre))
 
-write-all-requires : tie.Need-write-all-requires
-write-all-requires c κs = search needs
+cleared : tie.Need-returns
+cleared c =
+    let w = c .before .before .before in
+    subst (Wrote _) (c .before .count .given .1) (w .write .ensures) ∙ length-take-le _ _ (start (w .before) .pre)
 
-returns : tie.Need-returns
-returns c = (c .before .before .before .before .pre .1, inr refl)
-
-returns-2 : tie.Need-returns-2
-returns-2 c = (let l = ltb-false (length (c .before .before .args .block .now) - c .before .before .args .used) 64 (or-right (c .before .before .args .waits) _ (c .if1 .left)) in omega (arith, c .before .before .pre .0), inl refl)
+left : tie.Need-returns-3
+left c =
+    let s = c .before .before in
+    let free = length (s .args .block .now) - s .args .used in (
+      refl,
+      or-left _ _ (c .if1 .left),
+      let l = ltb-false free line-room (or-right (s .args .waits) _ (c .if1 .left)) in omega (arith, s .pre),
+    )
 
 pub with-room-spec : {M : Type 1} → statement M
 with-room-spec =
-    tie.close (tie.spec sub-if1 slice-aggregate-write-all write-all-requires returns returns-2)
+    tie.close (tie.spec (λ c. search needs) handed (λ c κs. search needs) (λ c. search needs) (λ c. search needs) cleared (λ c. search needs) left)

@@ -3,13 +3,13 @@ use borrow.Author.Needs.{needs}
 use mathlib.Core.Path.{refl, sym, _∙_}
 use Rattle.theory.specs.Expression.{ε, letter}
 use Rattle.theory.specs.Grammar.{rows}
-use Rattle.reader.proofs.Leaf.{leaf-unit, leaf-letter, leaf-other}
+use Rattle.reader.proofs.Leaf.{leaf-ε, leaf-letter, leaf-other}
 use Rattle.reader.proofs.entries.leaf.Statement.{statement}
 use Rattle.reader.proofs.entries.leaf.Tie as tie
 
 returns : tie.Need-returns
 unfolding rows
-returns c = (ε, leaf-unit _ (c .if1 .taken), λ made. refl)
+returns c = (ε, leaf-ε _ (c .if1 .taken), λ made. refl)
 
 letter-requires : tie.Need-letter-requires
 letter-requires c κs = search needs

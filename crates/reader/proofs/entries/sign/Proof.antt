@@ -9,54 +9,37 @@ use Rattle.reader.proofs.Stepped.{Stepped, step-end, step-byte, sign-at
 use Rattle.reader.proofs.entries.sign.Statement.{statement}
 use Rattle.reader.proofs.entries.sign.Tie as tie
 
-step-requires : tie.Need-step-requires
-step-requires c κs = search needs
+abbrev start : tie.After-step → tie.Start
+start c = c .before .before
 
-enum-known-byte : tie.Need-enum-known-byte
-enum-known-byte c = search needs
+stepped : (c : tie.After-byte)
+    → let a = start (c .before .before) .args in Stepped (a .text .now) (a .cursor .at) (c .byte .given .0 .0) (c .byte .given .0 .1 .0)
+stepped c = step-byte (c .before .before .step .ensures) (c .byte .given .1)
 
-enum-told : tie.Need-enum-told
-enum-told c = search needs
-
-returns : tie.Need-returns
-returns c =
-    let a = c .before .before .before .before .args in
-    let past = step-end (a .text .now) (a .cursor .at) _ (c .before .before .step .ensures) (c .enum-told .given .1) in
+text-ended : tie.Need-returns
+text-ended c =
+    let past = step-end (start (c .before .before) .args .text .now) (c .before .before .step .ensures) (c .enum-told .given .1) in
     (refl, refl, λ g l e. omega arith)
 
-stepped : (c : tie.After-byte) → Stepped (c .before .before .before .before .args .text .now) (c .before .before .before .before .args .cursor .at) (c .byte .given .0 .0) (c .byte .given .0 .1 .0)
-stepped c = step-byte (c .before .before .before .before .args .text .now) (c .before .before .before .before .args .cursor .at) _ (c .before .before .step .ensures) _ _ (c .byte .given .1)
-
-returns-2 : tie.Need-returns-2
+plus : tie.Need-returns-2
 unfolding kind-of-sign sign-byte
-returns-2 c = sign-at _ _ _ _ union (stepped (c .before .before)) (c .match2 .keys1)
+plus c = sign-at union (stepped (c .before .before)) (c .match2 .keys1)
 
-returns-3 : tie.Need-returns-3
+dot : tie.Need-returns-3
 unfolding kind-of-sign sign-byte
-returns-3 c = sign-at _ _ _ _ concatenation (stepped (c .before .before)) (c .match2 .keys2)
+dot c = sign-at concatenation (stepped (c .before .before)) (c .match2 .keys2)
 
-returns-4 : tie.Need-returns-4
+ampersand : tie.Need-returns-4
 unfolding kind-of-sign sign-byte
-returns-4 c = sign-at _ _ _ _ shuffle (stepped (c .before .before)) (c .match2 .keys3)
+ampersand c = sign-at shuffle (stepped (c .before .before)) (c .match2 .keys3)
 
-returns-5 : tie.Need-returns-5
-returns-5 c = (
-  refl,
-  refl,
-  λ g l e.
-      no-sign _ (c .match2 .rest .0 .0 .1) (c .match2 .rest .0 .1) (c .match2 .rest .1) g
-      (sym (stepped (c .before .before) .here) ∙ e),
-)
+unsigned : tie.Need-returns-5
+unsigned c =
+    let none = c .match2 .rest in
+    (refl, refl, λ g l e. no-sign _ (none .0 .0 .1) (none .0 .1) (none .1) g (sym (stepped (c .before .before) .here) ∙ e))
 
 pub sign-spec : {M : Type 1} → statement M
 sign-spec =
     tie.close
-    (tie.spec
-    step-requires
-    enum-known-byte
-    enum-told
-    returns
-    returns-2
-    returns-3
-    returns-4
-    returns-5)
+    (tie.spec (λ c κs. search needs) (λ c. search needs) (λ c. search needs) text-ended
+    (λ c. search needs) (λ c. search needs) (λ c. search needs) plus dot ampersand unsigned)

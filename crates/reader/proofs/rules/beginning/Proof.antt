@@ -2,98 +2,84 @@
 use borrow.Author.Needs.{needs}
 use native.Mathlib.Omega.{arith}
 use mathlib.Core.Path.{sym, ap, _∙_}
-use Rattle.theory.specs.Table.{table}
+use Rattle.theory.specs.Table.{Table, table}
 use Rattle.reader.specs.declared.entries.Point.{Point}
+use Rattle.reader.proofs.Laid.{left-by-call}
 use Rattle.reader.proofs.Stepped.{Stepped, step-end, step-byte}
-use Rattle.reader.proofs.Whole.{begun-empty, begun-zero, begun-expression}
+use Rattle.reader.proofs.Whole.{begun-empty, begun-∅, begun-expression}
 use Rattle.reader.proofs.rules.beginning.Statement.{statement}
 use Rattle.reader.proofs.rules.beginning.Tie as tie
 
-abbrev entry : tie.After-byte → tie.Start
-entry c = c .before .before .before .before .before .before .before .before
+-- ---- The places: the entry, the byte, the two calls
 
-stepped : (c : tie.After-byte) → Stepped (entry c .args .text .now) (entry c .args .at .cursor .at) (c .byte .given .0 .0) (c .byte .given .0 .1 .0)
-stepped c = step-byte (entry c .args .text .now) (entry c .args .at .cursor .at) _ (c .before .before .step .ensures) _ _ (c .byte .given .1)
+abbrev known : tie.After-start → tie.After-slice-known
+known c = c .before .before .before
 
-step-requires : tie.Need-step-requires
-step-requires c κs = search needs
+abbrev entered : tie.After-step → tie.Start
+entered c = known (c .before) .before .before
 
-enum-known-byte : tie.Need-enum-known-byte
-enum-known-byte c = search needs
+abbrev lent : tie.Start → Table
+lent c = table (c .args .kind .now) (c .args .left .now) (c .args .right .now)
 
-enum-told : tie.Need-enum-told
-enum-told c = search needs
+abbrev ∅-byte : tie.After-entry-arg3 → tie.Then1
+∅-byte c = c .before .before .before
 
-returns : tie.Need-returns
-returns c =
-    let s = c .before .before .before .before .before .before .before .before in
-    begun-empty (s .args .at .room) (s .args .text .now) (s .args .at) (s .pre .1) (step-end (s .args .text .now) (s .args .at .cursor .at) _ (c .before .before .step .ensures) (c .enum-told .given .1))
+abbrev entry-home : tie.After-slice-known6 → tie.After-left
+entry-home c = c .before .before .before
 
-entry-requires : tie.Need-entry-requires
-entry-requires c κs = (search needs, omega (arith, stepped (c .before .before .before .before .before) .next))
+abbrev other-byte : tie.After-expression-arg3 → tie.Else1
+other-byte c = c .before .before .before
 
-same-length : tie.Need-same-length
-same-length c = search needs
+abbrev expression-home : tie.After-slice-known9 → tie.After-left2
+expression-home c = c .before .before .before
 
-same-length-2 : tie.Need-same-length-2
-same-length-2 c = search needs
+stepped : (c : tie.After-byte)
+    → let a = entered (c .before .before) .args in Stepped (a .text .now) (a .at .cursor .at) (c .byte .given .0 .0) (c .byte .given .0 .1 .0)
+stepped c = step-byte (c .before .before .step .ensures) (c .byte .given .1)
 
-same-length-3 : tie.Need-same-length-3
-same-length-3 c = search needs
+-- ---- The needs
 
-returns-2 : tie.Need-returns-2
-returns-2 c =
-    let called = c .before .before .before .before .before .before in
-    let byte = called .before .before .before .before .before .before in
-    let a = entry byte .args in
-    let last = called .entry .last .1 .1 in
-    begun-zero (a .at .room) (a .text .now) (table (a .kind .now) (a .left .now) (a .right .now)) (a .at) (entry byte .pre .1) _ _ (stepped byte) (called .before .before .before .before .if1 .taken)
-    (called .entry .result) (table (last .0) (last .1 .0) (last .1 .1 .0)) (called .entry .ensures)
+text-empty : tie.Need-returns
+text-empty c =
+    let s = entered (c .before .before) in
+    begun-empty (s .args .at .room) (s .args .text .now) (s .args .at) (s .pre .1)
+    (step-end (s .args .text .now) (c .before .before .step .ensures) (c .enum-told .given .1))
 
-expression-requires : tie.Need-expression-requires
-expression-requires c κs =
-    let byte = c .before .before .before .before .before in
+entry-asked : tie.Need-entry-requires
+entry-asked c κs = (search needs, omega (arith, stepped (∅-byte c .before .before) .next))
+
+∅-read : tie.Need-returns-2
+∅-read c =
+    let called = entry-home c .before .before .before in
+    let byte = ∅-byte (called .before) .before .before in
+    let s = entered (byte .before .before) in
+    begun-∅ (s .args .at .room) (s .args .text .now) (lent s) (s .args .at) (s .pre .1) (stepped byte) (∅-byte (called .before) .if1 .taken)
+    (called .entry .result) (left-by-call (called .entry .last .1 .1)) (called .entry .ensures)
+
+expression-asked : tie.Need-expression-requires
+expression-asked c κs =
+    let byte = other-byte c .before .before in
     let at = stepped byte in
-    let start = entry byte .pre .1 in
+    let s = entered (byte .before .before) in
     record {
-      room-left = entry byte .pre .0;
-      shallow = omega (arith, ap (λ (p : Point). p .depth) start);
+      room-left = s .pre .0;
+      shallow = omega (arith, ap (λ (p : Point). p .depth) (s .pre .1));
       within = omega (arith, at .inside);
-      fits = omega (arith, ap (λ (p : Point). p .made) start);
-      no-zero = λ _ e. c .before .before .before .if1 .left (sym (at .here) ∙ e);
+      fits = omega (arith, ap (λ (p : Point). p .made) (s .pre .1));
+      no-∅ = λ _ e. other-byte c .if1 .left (sym (at .here) ∙ e);
     }
 
-same-length-4 : tie.Need-same-length-4
-same-length-4 c = search needs
-
-same-length-5 : tie.Need-same-length-5
-same-length-5 c = search needs
-
-same-length-6 : tie.Need-same-length-6
-same-length-6 c = search needs
-
-returns-3 : tie.Need-returns-3
-returns-3 c =
-    let called = c .before .before .before .before .before .before .expression in
-    let s = entry (c .before .before .before .before .before .before .before .before .before .before .before .before) in
-    let last = called .last .1 .1 in
-    begun-expression (s .args .at .room) (s .args .text .now) (table (s .args .kind .now) (s .args .left .now) (s .args .right .now)) (s .args .at) (s .pre .1) (called .result) (table (last .0) (last .1 .0) (last .1 .1 .0)) (called .ensures .0) (called .ensures .1)
+expression-read : tie.Need-returns-3
+expression-read c =
+    let called = expression-home c .before .before .before in
+    let byte = other-byte (called .before) .before .before in
+    let s = entered (byte .before .before) in
+    begun-expression (s .args .at .room) (s .args .text .now) (lent s) (s .args .at) (s .pre .1) (called .expression .result)
+    (left-by-call (called .expression .last .1 .1)) (called .expression .ensures .0) (called .expression .ensures .1)
 
 pub beginning-spec : {M : Type 1} → statement M
 beginning-spec =
     tie.close
-    (tie.spec
-    step-requires
-    enum-known-byte
-    enum-told
-    returns
-    entry-requires
-    same-length
-    same-length-2
-    same-length-3
-    returns-2
-    expression-requires
-    same-length-4
-    same-length-5
-    same-length-6
-    returns-3)
+    (tie.spec (λ c κs. search needs) (λ c. search needs) (λ c. search needs) text-empty
+    entry-asked (λ c. search needs) (λ c. search needs) (λ c. search needs) ∅-read
+    expression-asked (λ c. search needs) (λ c. search needs) (λ c. search needs) expression-read)

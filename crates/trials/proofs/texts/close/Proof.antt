@@ -1,3 +1,4 @@
+-- `close` keeps the text as long as it was. The measure is what is left to fill.
 use borrow.Author.Needs.{needs}
 use Prim.Native.Nat.{_-_}
 use mathlib.Core.Path.{_≡_}
@@ -11,49 +12,8 @@ Inv-loop text₀ start end i₀ byte₀ text i byte = length text ≡ length tex
 abbrev μ-loop : tie.MeasureT-loop
 μ-loop text₀ start end i₀ byte₀ text i byte = end - i
 
--- src/texts.rt:62:5
-loop-holds : tie.Need-loop-holds Inv-loop μ-loop
-loop-holds c = search needs
-
--- src/texts.rt:63:9
-put-requires : tie.Need-put-requires Inv-loop μ-loop
-put-requires c κs = search needs
-
--- src/texts.rt:64:9
-following-requires : tie.Need-following-requires Inv-loop μ-loop
-following-requires c κs = search needs
-
--- src/texts.rt:65:9
-add-i : tie.Need-add-i Inv-loop μ-loop
-add-i c = search needs
-
--- src/texts.rt:62:5
-loop-less : tie.Need-loop-less Inv-loop μ-loop
-loop-less c = search needs
-
--- src/texts.rt:62:5
-loop-again : tie.Need-loop-again Inv-loop μ-loop
-loop-again c = search needs
-
--- src/texts.rt:59:1
-same-length : tie.Need-same-length Inv-loop μ-loop
-same-length c = search needs
-
--- src/texts.rt:59:1
-returns : tie.Need-returns Inv-loop μ-loop
-returns c = search needs
-
 pub close-spec : {M : Type 1} → statement M
 close-spec =
     tie.close
-    (tie.spec
-    Inv-loop
-    μ-loop
-    loop-holds
-    put-requires
-    following-requires
-    add-i
-    loop-less
-    loop-again
-    same-length
-    returns)
+    (tie.spec Inv-loop μ-loop (λ c. search needs) (λ c κs. search needs) (λ c κs. search needs) (λ c. search needs) (λ c. search needs)
+    (λ c. search needs) (λ c. search needs) (λ c. search needs))
