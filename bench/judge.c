@@ -4,7 +4,6 @@
    measured against it would compare two ways of keeping states and not two compilations of one. */
 #include <stdint.h>
 #include <stdio.h>
-#include <stdlib.h>
 
 #include "../peer/expression_line.h"
 #include "../peer/lines.h"
@@ -91,7 +90,7 @@ int main(void)
     struct refusal refusal = read_expression_line(stdin, program_rooms, forest_new(), &automaton);
     if (refusal.number != SUCCESS) {
         print_refusal(refusal);
-        return fflush(stdout) == 0 ? EXIT_SUCCESS : EXIT_FAILURE;
+        return written();
     }
     fill(&columns, &automaton);
     struct line line;
@@ -102,5 +101,5 @@ int main(void)
         } else {
             judge(&columns, line.bytes, line.length);
         }
-    return fflush(stdout) == 0 ? EXIT_SUCCESS : EXIT_FAILURE;
+    return written();
 }

@@ -1,5 +1,5 @@
 /* Prints the needs of an expression line, `states expressions arcs`, or its refusal.
-   Usage: counts [EXPRESSIONS STATES ARCS]; without rooms those of the programs. */
+   Usage: counts [STATES EXPRESSIONS ARCS]: the rooms, in the order of the needs; without them those of the programs. */
 #include <stdio.h>
 #include <stdlib.h>
 
@@ -29,7 +29,9 @@ int main(int argc, char **argv)
 {
     struct rooms rooms = program_rooms;
     if (argc == 4)
-        rooms = (struct rooms){ strtoul(argv[1], NULL, 10), strtoul(argv[2], NULL, 10), strtoul(argv[3], NULL, 10) };
+        rooms = (struct rooms){ .states = strtoul(argv[1], NULL, 10),
+                                .expressions = strtoul(argv[2], NULL, 10),
+                                .arcs = strtoul(argv[3], NULL, 10) };
     struct forest *forest = forest_new();
     struct automaton automaton;
     struct refusal refusal = read_expression_line(stdin, rooms, forest, &automaton);

@@ -1,4 +1,5 @@
-/* Lines end at a newline (byte 10) alone; a last line without one counts if it has a byte. */
+/* Lines end at a newline (byte 10) alone; a last line without one counts if it has a byte.
+   A read or a write that fails ends the program with status 1 and a word on standard error. */
 #ifndef LINES_H
 #define LINES_H
 
@@ -19,5 +20,8 @@ void read_line(FILE *input, struct line *line);
 
 /* Passes over the rest of a LONG_LINE with its newline. */
 void pass_over_rest(FILE *input);
+
+/* The exit status of a program that has answered: whether all of its output was written. */
+int written(void);
 
 #endif

@@ -1,8 +1,8 @@
 /* Reads one expression line and prints its automaton in the AT&T/OpenFst text format. */
 #include <stdio.h>
-#include <stdlib.h>
 
 #include "expression_line.h"
+#include "lines.h"
 
 static void print_listing(const struct automaton *automaton)
 {
@@ -25,5 +25,5 @@ int main(void)
         print_refusal(refusal);
     else
         print_listing(&automaton);
-    return fflush(stdout) == 0 ? EXIT_SUCCESS : EXIT_FAILURE;
+    return written();
 }

@@ -1,6 +1,5 @@
 /* Reads an expression line, then judges one record per line. */
 #include <stdio.h>
-#include <stdlib.h>
 
 #include "expression_line.h"
 #include "lines.h"
@@ -33,5 +32,5 @@ int main(void)
         print_refusal(refusal);
     else
         judge_lines(&automaton);
-    return fflush(stdout) == 0 ? EXIT_SUCCESS : EXIT_FAILURE;
+    return written();
 }

@@ -6,6 +6,7 @@ extern FILE *stdin, *stdout, *stderr;
 #define EOF (-1)
 #define _IONBF 2
 int getc(FILE *);
+int ferror(FILE *);
 int fputs(const char *, FILE *);
 int fflush(FILE *);
 int printf(const char *, ...) __attribute__((format(printf, 1, 2)));

@@ -1,6 +1,7 @@
 pub mod Causes
 pub mod Examples
 pub mod Printed
+pub mod Mistakes
 pub mod Limits
 pub mod DemandOne
 pub mod Handing

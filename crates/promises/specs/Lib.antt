@@ -4,6 +4,7 @@ pub mod Builder
 pub mod Matcher
 pub mod Examples
 pub mod Printed
+pub mod Mistakes
 pub mod Limits
 pub mod DemandOne
 pub mod DemandTwo
