@@ -31,7 +31,6 @@ pub mod Due
 pub mod Expressed
 pub mod Answers
 pub mod BuilderRefusal
-pub mod Column
 pub mod Filled
 pub mod Needs
 pub mod Accepts
