@@ -22,7 +22,8 @@ use Rattle.reader.specs.declared.entries.Found.the-variants.{Value, Refu
 use Rattle.reader.specs.Found.{laid, Entry, leaf-of, scan-at, Start, May-begin, After, Answered}
 use Rattle.reader.proofs.Leaf.{leaf-next, leaf-none, leaf-makes, leaf-entries}
 use Rattle.reader.proofs.Laid.{laid-append}
-use Rattle.reader.proofs.Stepped.{Stepped, byte-before}
+use Rattle.columns.proofs.ByteAt.{ByteAt}
+use Rattle.reader.proofs.Stepped.{byte-before}
 
 -- The row of a star over the last row made.
 abbrev pub star-row : ℕ → Row
@@ -43,7 +44,7 @@ module _ (room : ℕ) (text : Text) where
   unfolding finish
   end-answers s l fs d = at-end room text (s .at) (s .made) (before fs) l
 
-  module _ (s : Start) (b : May-begin room text s) {byte : ℕ} {cursor : Cursor} (i : Stepped text (s .at) byte cursor) where
+  module _ (s : Start) (b : May-begin room text s) {byte : ℕ} {cursor : Cursor} (i : ByteAt text (s .at) byte cursor) where
     leaf-here : {o : Option Expression} → leaf-of (token byte) ≡ o → leaf-of (token (getD text (s .at) 0)) ≡ o
     leaf-here e = rw (i .here) e
 
@@ -89,7 +90,7 @@ module _ (room : ℕ) (text : Text) where
       sym (laid-append base (rows base x) (entry Kind.star (base + pred (entries x)) 0 ∷ []) t ∙ rw (rows-length, last))
 
   pub star-answers : (s : Start) (at made : ℕ) (t : Table) → After room text s at made t → (byte : ℕ) (cursor : Cursor)
-      → Stepped text at byte cursor → byte ≡ byte-* → (r : Found) (t′ : Table)
+      → ByteAt text at byte cursor → byte ≡ byte-* → (r : Found) (t′ : Table)
       → Entry room made cursor (star-row made ∷ []) t r t′ → Answered room text s r t′
   unfolding open-at entries makes-entry
   star-answers s at made t x byte cursor i b (Value made′ cursor′) t′ h =

@@ -23,7 +23,7 @@ use Rattle.reader.specs.declared.entries.Found.{Found}
 use Rattle.reader.specs.declared.entries.Found.the-variants.{Value, Refused}
 use Rattle.reader.specs.Found.{laid, Sign-at, Close-at, scan-at, Start, start, May-begin, After, Answered}
 use Rattle.reader.proofs.Laid.{laid-append}
-use Rattle.reader.proofs.Stepped.{Stepped}
+use Rattle.columns.proofs.ByteAt.{ByteAt}
 use Rattle.reader.proofs.Answers.{stuck-here}
 
 -- The scan from s, before an expression, comes to stand at place `at`, whatever lies open around it.
@@ -39,7 +39,7 @@ pub record Inside (room : ℕ) (text : Text) (s : Start) (at : ℕ) : Type 0 whe
   pub onward : s .at < at
   pub within : at ≤ length text
 
-module _ {room : ℕ} {text : Text} {s : Start} (b : May-begin room text s) {byte : ℕ} {cursor : Cursor} (i : Stepped text (s .at) byte cursor)
+module _ {room : ℕ} {text : Text} {s : Start} (b : May-begin room text s) {byte : ℕ} {cursor : Cursor} (i : ByteAt text (s .at) byte cursor)
     (o : byte ≡ byte-open) where
   pub deep-answers : most-open ≤ s .depth → Answered room text s (Refused too-deep (s .at)) (s .columns)
   unfolding open-at

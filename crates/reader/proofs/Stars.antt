@@ -11,7 +11,7 @@ use Rattle.columns.specs.declared.Cursor.{Cursor}
 use Rattle.reader.specs.declared.entries.Found.{Found}
 use Rattle.reader.specs.declared.entries.Found.the-variants.{Value}
 use Rattle.reader.specs.Found.{Entry, Start, After, Answered}
-use Rattle.reader.proofs.Stepped.{Stepped}
+use Rattle.columns.proofs.ByteAt.{ByteAt}
 use Rattle.reader.proofs.Answers.{star-row, star-answers}
 
 -- Whatever stood before place at₀ stands before place `at`, with the stars that follow it.
@@ -24,7 +24,7 @@ pub record Starred (room : ℕ) (text : Text) (at₀ made₀ : ℕ) (t₀ : Tabl
   pub right : length (t .right) ≡ length (t₀ .right)
 
 module _ {room : ℕ} {text : Text} {at₀ made₀ : ℕ} {t₀ : Table} {at made byte : ℕ} {t : Table} (x : Starred room text at₀ made₀ t₀ at made t)
-    {cursor : Cursor} (h : Stepped text at byte cursor) (e : byte ≡ byte-*) where
+    {cursor : Cursor} (h : ByteAt text at byte cursor) (e : byte ≡ byte-*) where
   pub starred-answers : (r : Found) (t′ : Table) → Entry room made cursor (star-row made ∷ []) t r t′
       → (s : Start) → After room text s at₀ made₀ t₀ → Answered room text s r t′
   starred-answers r t′ i s y = star-answers room text s at made t (x .onward s y) byte cursor h e r t′ i

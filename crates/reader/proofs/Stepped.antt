@@ -8,10 +8,8 @@ use mathlib.Core.List.{List, [], _∷_}
 use lib.ListN.{length, getD}
 use lib.Dec.{ltb}
 use borrow.Author.Tests.{ltb-true, ltb-false}
-use Rattle.columns.specs.Cursor.{step-at}
 use Rattle.columns.specs.declared.Cursor.{Cursor}
-use Rattle.columns.specs.declared.Step.{Step}
-use Rattle.columns.specs.declared.Step.the-variants.{Byte, End}
+use Rattle.columns.proofs.ByteAt.{ByteAt}
 use Rattle.theory.specs.Expression.{Sign, union, concatenation, shuffle}
 use Rattle.theory.specs.Table.{Table, Row, kind-of-sign}
 use Rattle.theory.specs.Grammar.{sign-byte, byte-close, byte-+, byte-dot, byte-&}
@@ -19,40 +17,19 @@ use Rattle.reader.specs.declared.entries.Found.{Found}
 use Rattle.reader.specs.declared.entries.Found.the-variants.{Value, Refused}
 use Rattle.reader.specs.Found.{Entry, Close-at, Sign-at}
 
-pub record Stepped (text : List ℕ) (at byte : ℕ) (cursor : Cursor) : Type 0 where
-  pub inside : at < length text
-  pub here : getD text at 0 ≡ byte
-  pub next : cursor .at ≡ at + 1
-
 -- The byte before the cursor after a place is the place's.
-pub byte-before : {text : List ℕ} {at byte : ℕ} {cursor : Cursor} → Stepped text at byte cursor → cursor .at - 1 ≡ at
+pub byte-before : {text : List ℕ} {at byte : ℕ} {cursor : Cursor} → ByteAt text at byte cursor → cursor .at - 1 ≡ at
 byte-before s = omega (arith, s .next)
-
-pub step-end : (text : List ℕ) {at : ℕ} {r : Step} → r ≡ step-at text at → r ≡ End → length text ≤ at
-step-end text {at} h e = go (ltb at (length text)) refl
-  where
-    go : (b : Bool) → ltb at (length text) ≡ b → length text ≤ at
-    go true p = let z : _≡_ {A = ℕ} 0 1 = cc in absurd (omega arith)
-    go false p = ltb-false at (length text) p
-
-pub step-byte : {text : List ℕ} {at byte : ℕ} {cursor : Cursor} {r : Step} → r ≡ step-at text at → r ≡ Byte byte cursor → Stepped text at byte cursor
-step-byte {text} {at} {byte} {cursor} h e = go (ltb at (length text)) refl
-  where
-    go : (b : Bool) → ltb at (length text) ≡ b → Stepped text at byte cursor
-    go true p =
-        let same : cursor ≡ record { at = at + 1 } = cc in
-        record { inside = ltb-true at (length text) p; here = cc; next = ap (λ (q : Cursor). q .at) same }
-    go false p = let z : _≡_ {A = ℕ} 0 1 = cc in absurd (omega arith)
 
 -- ---- `)` and the signs
 
-pub close-at : {text : List ℕ} {at byte : ℕ} {cursor : Cursor} → Stepped text at byte cursor → byte ≡ byte-close
+pub close-at : {text : List ℕ} {at byte : ℕ} {cursor : Cursor} → ByteAt text at byte cursor → byte ≡ byte-close
     → (room made : ℕ) (w : Row) (t : Table) (r : Found) (t′ : Table) → Entry room made cursor (w ∷ []) t r t′ → Close-at text room at made w t r t′
 close-at s e room made w t (Value made′ cursor′) t′ h =
     (s .inside, s .here ∙ e, h .0, h .1, ap (λ (q : Cursor). q .at) (h .2) ∙ s .next, h .3)
 close-at s e room made w t (Refused number place) t′ h = (h .2 ∙ byte-before s, inr (h .1, s .inside, s .here ∙ e, h .0))
 
-pub sign-at : {text : List ℕ} {at byte : ℕ} {cursor : Cursor} (g : Sign) → Stepped text at byte cursor → byte ≡ sign-byte g
+pub sign-at : {text : List ℕ} {at byte : ℕ} {cursor : Cursor} (g : Sign) → ByteAt text at byte cursor → byte ≡ sign-byte g
     → Sign-at text at (Value (kind-of-sign g) cursor)
 sign-at g s e = (g, s .inside, s .here ∙ e, refl, s .next)
 

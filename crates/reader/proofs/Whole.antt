@@ -30,9 +30,11 @@ use Rattle.reader.specs.declared.entries.Point.{Point}
 use Rattle.reader.specs.declared.entries.Found.{Found}
 use Rattle.reader.specs.declared.entries.Found.the-variants.{Value, Refused}
 use Rattle.reader.specs.Found.{laid, Entry, start, begins, Answered, Unstarred}
-use Rattle.reader.specs.Whole.{at-start, Beginning, Begun, Whole-read, cleared, Limited}
+use Rattle.columns.specs.Row.{cleared}
+use Rattle.reader.specs.Whole.{at-start, Beginning, Begun, Whole-read, Limited}
 use Rattle.reader.proofs.Laid.{laid-zeros}
-use Rattle.reader.proofs.Stepped.{Stepped, byte-before}
+use Rattle.columns.proofs.ByteAt.{ByteAt}
+use Rattle.reader.proofs.Stepped.{byte-before}
 
 -- ---- The beginning
 
@@ -49,14 +51,14 @@ unfolding next token
 ∅-next b e = rw e
 
 module _ (room : ℕ) (text : Text) (t : Table) where
-  pub begun-∅ : (at : Point) → at ≡ at-start room → {byte : ℕ} {cursor : Cursor} → Stepped text (at .cursor .at) byte cursor → byte ≡ byte-0
+  pub begun-∅ : (at : Point) → at ≡ at-start room → {byte : ℕ} {cursor : Cursor} → ByteAt text (at .cursor .at) byte cursor → byte ≡ byte-0
       → (r : Found) (t′ : Table) → Entry room (at .made) cursor (empty-row ∷ []) t r t′ → Begun room text t r t′
   unfolding scan open-at makes-entry finish next entries rows
   begun-∅ at z {byte} {cursor} i e r t′ h =
-      go r (subst (λ (p : Point). Stepped text (p .cursor .at) byte cursor) z i)
+      go r (subst (λ (p : Point). ByteAt text (p .cursor .at) byte cursor) z i)
       (subst (λ (p : Point). Entry room (p .made) cursor (empty-row ∷ []) t r t′) z h)
     where
-      go : (r : Found) → Stepped text 0 byte cursor → Entry room 0 cursor (empty-row ∷ []) t r t′ → Begun room text t r t′
+      go : (r : Found) → ByteAt text 0 byte cursor → Entry room 0 cursor (empty-row ∷ []) t r t′ → Begun room text t r t′
       go (Value made cursor′) i h =
           let here : getD text 0 0 ≡ byte-0 = i .here ∙ e in
           let next-at : cursor′ .at ≡ 0 + 1 = ap (λ (q : Cursor). q .at) (h .2) ∙ i .next in
@@ -97,7 +99,7 @@ module _ (room : ℕ) (text : Text) (t : Table) where
     found : Beginning room text (cursor .at) made t t′
     found = subst (λ (r′ : Found). Begun room text t r′ t′) q h
 
-    pub whole-broken : {byte : ℕ} {cursor′ : Cursor} → Stepped text (cursor .at) byte cursor′ → scan room text ≡ refused (refusal not-grammar (cursor .at))
+    pub whole-broken : {byte : ℕ} {cursor′ : Cursor} → ByteAt text (cursor .at) byte cursor′ → scan room text ≡ refused (refusal not-grammar (cursor .at))
     whole-broken i = found .reads ∙ at-broken room text (cursor .at) made (found .stand) (i .inside) (found .ended (i .inside))
 
     pub whole-ended : length text ≤ cursor .at → Whole-read room text t (Value made cursor) t′

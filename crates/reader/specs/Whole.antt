@@ -5,7 +5,6 @@ use mathlib.Core.Option.{none}
 use lib.ListN.{length, getD}
 use Rattle.theory.specs.Expression.{Expression, entries}
 use Rattle.theory.specs.Refusal.{refusal}
-use Rattle.theory.specs.Column.{zeros}
 use Rattle.theory.specs.Table.{Table, table}
 use Rattle.theory.specs.Grammar.{Text, read, refused, rows}
 use Rattle.theory.specs.Scan.{token, Stand, next, finish, scan}
@@ -37,10 +36,6 @@ Begun room text t (Refused number place) t′ = scan room text ≡ refused (refu
 abbrev pub Whole-read : (room : ℕ) → Text → Table → Found → Table → Type 0
 Whole-read room text t (Value made cursor) t′ = (e : Expression) × (scan room text ≡ read e) × (made ≡ entries e) × (t′ ≡ laid 0 (rows 0 e) t)
 Whole-read room text t (Refused number place) t′ = scan room text ≡ refused (refusal number place)
-
--- 01: "sets all lent output and work columns to zero".
-abbrev pub cleared : Table → Table
-cleared t = table (zeros (length (t .kind))) (zeros (length (t .left))) (zeros (length (t .right)))
 
 -- The reading that is due. What a refusal leaves in the columns is not said: they are cleared after it.
 abbrev pub Limited : Text → Table → Found → Table → Type 0

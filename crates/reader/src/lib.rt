@@ -6,12 +6,10 @@ mod rules;
 use entries::Found;
 use theory::limit;
 use theory::refusal;
-ghost use mathlib.Core.Path.{_≡_};
-ghost use Prim.Native.Nat.{min};
 ghost use Rattle.theory.specs.Table.{table};
 ghost use Rattle.theory.specs.Read.{Read};
 ghost use Rattle.reader.specs.Answer.{answer};
-ghost use Rattle.reader.specs.Whole.{cleared, Limited};
+ghost use Rattle.reader.specs.Whole.{Limited};
 
 // 01: "the result gives the number of entries"; "A refusal returns its number and place".
 pub enum Reading {
@@ -28,7 +26,7 @@ pub fn read(text: &[u8], kind: &mut [u8], left: &mut [u16], right: &mut [u16]) -
     match found {
         Found::Value(entries, _) => Reading::Read { entries },
         Found::Refused { number, place } => {
-            clear(kind, left, right);
+            columns::clear_table(kind, left, right);
             Reading::Refused { number, place }
         }
     }
@@ -40,7 +38,7 @@ fn limited(text: &[u8], kind: &mut [u8], left: &mut [u16], right: &mut [u16]) ->
         ⌜ Limited (now (text .entry)) (table (now (kind .entry)) (now (left .entry)) (now (right .entry))) r
         (table (now (kind .exit)) (now (left .exit)) (now (right .exit))) ⌝ }
 {
-    clear(kind, left, right);
+    columns::clear_table(kind, left, right);
     let room = kind.len();
     if (left.len() != room) | (right.len() != room) {
         return Found::Refused {
@@ -54,21 +52,11 @@ fn limited(text: &[u8], kind: &mut [u8], left: &mut [u16], right: &mut [u16]) ->
             place: 0,
         };
     }
-    rules::whole(text, smaller(limit::ENTRIES, room), kind, left, right)
-}
-
-fn smaller(a: usize, b: usize) -> usize
-    ensures { λ r. ⌜ r ≡ min a b ⌝ }
-{
-    if a < b { a } else { b }
-}
-
-fn clear(kind: &mut [u8], left: &mut [u16], right: &mut [u16])
-    ensures { λ _.
-        ⌜ table (now (kind .exit)) (now (left .exit)) (now (right .exit))
-        ≡ cleared (table (now (kind .entry)) (now (left .entry)) (now (right .entry))) ⌝ }
-{
-    columns::clear8(kind);
-    columns::clear16(left);
-    columns::clear16(right);
+    rules::whole(
+        text,
+        columns::smaller(limit::ENTRIES, room),
+        kind,
+        left,
+        right,
+    )
 }

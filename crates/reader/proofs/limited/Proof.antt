@@ -10,13 +10,13 @@ use Rattle.reader.proofs.limited.Tie as tie
 
 -- ---- The places: the entry, the columns cleared, the text read
 
-abbrev lending : tie.After-clear → tie.After-clear-arg
+abbrev lending : tie.After-clear-table → tie.After-clear-table-arg
 lending c = c .before .before .before
 
-abbrev known : tie.After-clear-arg → tie.After-slice-known
+abbrev known : tie.After-clear-table-arg → tie.After-slice-known
 known c = c .before .before .before
 
-abbrev start : tie.After-clear → tie.Start
+abbrev start : tie.After-clear-table → tie.Start
 start c = known (lending c) .before .before
 
 abbrev lent : tie.Start → Table
@@ -25,7 +25,7 @@ lent c = table (c .args .kind .now) (c .args .left .now) (c .args .right .now)
 abbrev home : tie.After-slice-known6 → tie.After-left
 home c = c .before .before .before
 
-abbrev cleared : tie.After-slice-known6 → tie.After-clear
+abbrev cleared : tie.After-slice-known6 → tie.After-clear-table
 cleared c = home c .before .before .before
 
 abbrev limiting : tie.After-whole-arg3 → tie.After-smaller
@@ -39,20 +39,20 @@ whole-home c = c .before .before .before
 lengths-differ : tie.Need-returns
 lengths-differ c =
     let called = cleared (c .before) in
-    whole.due-differ (start called .args .text .now) (lent (start called)) (left-by-call (called .clear .last)) (called .clear .ensures)
+    whole.due-differ (start called .args .text .now) (lent (start called)) (left-by-call (called .clear-table .last)) (called .clear-table .ensures)
     (whole.not-both _ _ _ (c .if1 .taken))
 
 too-long : tie.Need-returns-2
 too-long c =
     let called = cleared (c .before .before) in
     let equal = whole.both-equal _ _ _ (c .before .if1 .left) in
-    whole.due-long (start called .args .text .now) (lent (start called)) (left-by-call (called .clear .last)) (called .clear .ensures) (equal .0) (equal .1)
+    whole.due-long (start called .args .text .now) (lent (start called)) (left-by-call (called .clear-table .last)) (called .clear-table .ensures) (equal .0) (equal .1)
     (c .if2 .taken)
 
 whole-asked : tie.Need-whole-requires
 whole-asked c κs =
     let fits = limiting c .before in
-    let last = cleared (fits .before .before) .clear .last in
+    let last = cleared (fits .before .before) .clear-table .last in
     let equal = whole.both-equal (length (last .1 .0)) (length (last .1 .1 .0)) (length (last .0)) (fits .before .if1 .left) in
     let smaller = limiting c .smaller .ensures in
     record { small = omega arith; kind = omega arith; left = omega arith; right = omega arith }
@@ -63,7 +63,7 @@ text-read c =
     let room = limiting (read .before) in
     let called = cleared (room .before .before .before) in
     let equal = whole.both-equal _ _ _ (room .before .before .if1 .left) in
-    whole.limited (start called .args .text .now) (lent (start called)) (left-by-call (called .clear .last)) (called .clear .ensures) (equal .0) (equal .1)
+    whole.limited (start called .args .text .now) (lent (start called)) (left-by-call (called .clear-table .last)) (called .clear-table .ensures) (equal .0) (equal .1)
     (room .before .if2 .left) (room .smaller .result) (room .smaller .ensures) (read .whole .result) (left-by-call (read .whole .last .1 .1))
     (read .whole .ensures)
 

@@ -29,10 +29,10 @@ limited c = home c .before .before .before
 abbrev clear-home : tie.After-slice-known9 → tie.After-left2
 clear-home c = c .before .before .before
 
-abbrev cleared : tie.After-slice-known9 → tie.After-clear
+abbrev cleared : tie.After-slice-known9 → tie.After-clear-table
 cleared c = clear-home c .before .before .before
 
-abbrev clearing : tie.After-clear → tie.After-clear-arg
+abbrev clearing : tie.After-clear-table → tie.After-clear-table-arg
 clearing c = c .before .before .before
 
 -- ---- The needs
@@ -45,7 +45,7 @@ text-read c =
 
 text-refused : tie.Need-returns-2
 text-refused c =
-    let zeros = cleared c .clear in
+    let zeros = cleared c .clear-table in
     let refusal = clearing (cleared c) .before .before in
     let called = limited (refusal .before .before) in
     let kept = called .limited .kept .1 in

@@ -8,7 +8,7 @@ use lib.ListN.{length, getD}
 use borrow.Author.Tests.{not-true, not-false}
 use Rattle.theory.specs.Arcs.{Arcs, arc-columns, counted}
 use Rattle.theory.specs.Record.{Work, work}
-use Rattle.matcher.proofs.ByteAt.{ByteAt, step-byte, step-end}
+use Rattle.columns.proofs.ByteAt.{ByteAt, step-byte, step-end}
 use Rattle.matcher.proofs.Walk.{SameWork, same-work, inside, so-far, Walk, Turn, walk-at, walk-start, walk-whole, one-byte, walk-more, walk-dead}
 use Rattle.matcher.proofs.moves.walk.Statement.{statement}
 use Rattle.matcher.proofs.moves.walk.Tie as tie

@@ -6,7 +6,8 @@ use mathlib.Core.Logic.{inl}
 use Rattle.theory.specs.Table.{table}
 use Rattle.columns.specs.Row.{as-row}
 use Rattle.reader.proofs.Laid.{left-by-call}
-use Rattle.reader.proofs.Stepped.{Stepped, step-end, step-byte, close-at}
+use Rattle.columns.proofs.ByteAt.{ByteAt, step-end, step-byte}
+use Rattle.reader.proofs.Stepped.{close-at}
 use Rattle.reader.proofs.entries.close.Statement.{statement}
 use Rattle.reader.proofs.entries.close.Tie as tie
 
@@ -25,14 +26,14 @@ abbrev home : tie.After-slice-known6 → tie.After-left
 home c = c .before .before .before
 
 stepped : (c : tie.After-byte)
-    → let a = start (c .before .before) .args in Stepped (a .text .now) (a .at .cursor .at) (c .byte .given .0 .0) (c .byte .given .0 .1 .0)
-stepped c = step-byte (c .before .before .step .ensures) (c .byte .given .1)
+    → let a = start (c .before .before) .args in ByteAt (a .text .now) (a .at .cursor .at) (c .byte .given .0 .0) (c .byte .given .0 .1 .0)
+stepped c = step-byte _ _ (c .before .before .step .ensures) (c .byte .given .1)
 
 -- ---- The needs
 
 text-ended : tie.Need-returns
 text-ended c =
-    let past = step-end (start (c .before .before) .args .text .now) (c .before .before .step .ensures) (c .enum-told .given .1) in
+    let past = step-end (start (c .before .before) .args .text .now) _ (c .before .before .step .ensures) (c .enum-told .given .1) in
     (refl, inl (refl, λ l e. omega arith))
 
 entry-asked : tie.Need-entry-requires

@@ -5,7 +5,8 @@ use mathlib.Core.Path.{refl, sym, _∙_}
 use Rattle.theory.specs.Expression.{union, concatenation, shuffle}
 use Rattle.theory.specs.Table.{kind-of-sign}
 use Rattle.theory.specs.Grammar.{sign-byte}
-use Rattle.reader.proofs.Stepped.{Stepped, step-end, step-byte, sign-at, no-sign}
+use Rattle.columns.proofs.ByteAt.{ByteAt, step-end, step-byte}
+use Rattle.reader.proofs.Stepped.{sign-at, no-sign}
 use Rattle.reader.proofs.entries.sign.Statement.{statement}
 use Rattle.reader.proofs.entries.sign.Tie as tie
 
@@ -13,12 +14,12 @@ abbrev start : tie.After-step → tie.Start
 start c = c .before .before
 
 stepped : (c : tie.After-byte)
-    → let a = start (c .before .before) .args in Stepped (a .text .now) (a .cursor .at) (c .byte .given .0 .0) (c .byte .given .0 .1 .0)
-stepped c = step-byte (c .before .before .step .ensures) (c .byte .given .1)
+    → let a = start (c .before .before) .args in ByteAt (a .text .now) (a .cursor .at) (c .byte .given .0 .0) (c .byte .given .0 .1 .0)
+stepped c = step-byte _ _ (c .before .before .step .ensures) (c .byte .given .1)
 
 text-ended : tie.Need-returns
 text-ended c =
-    let past = step-end (start (c .before .before) .args .text .now) (c .before .before .step .ensures) (c .enum-told .given .1) in
+    let past = step-end (start (c .before .before) .args .text .now) _ (c .before .before .step .ensures) (c .enum-told .given .1) in
     (refl, refl, λ g l e. omega arith)
 
 plus : tie.Need-returns-2

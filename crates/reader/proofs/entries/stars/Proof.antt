@@ -13,7 +13,7 @@ use Rattle.reader.specs.declared.entries.Found.the-variants.{Value}
 use Rattle.reader.specs.Found.{Entry, Unstarred}
 use Rattle.reader.proofs.Answers.{star-row}
 use Rattle.reader.proofs.Laid.{left-by-call}
-use Rattle.reader.proofs.Stepped.{Stepped, step-end, step-byte}
+use Rattle.columns.proofs.ByteAt.{ByteAt, step-end, step-byte}
 use Rattle.reader.proofs.Stars.{Starred, starred-answers, starred-more}
 use Rattle.reader.proofs.entries.stars.Statement.{statement}
 use Rattle.reader.proofs.entries.stars.Tie as tie
@@ -51,8 +51,8 @@ entered c = home c .before .before .before
 -- ---- What is known there
 
 stepped : (c : tie.After-byte Inv-loop μ-loop)
-    → Stepped (start (head c) .args .text .now) (head c .loop .cursor .at) (c .byte .given .0 .0) (c .byte .given .0 .1 .0)
-stepped c = step-byte (c .before .before .step .ensures) (c .byte .given .1)
+    → ByteAt (start (head c) .args .text .now) (head c .loop .cursor .at) (c .byte .given .0 .0) (c .byte .given .0 .1 .0)
+stepped c = step-byte _ _ (c .before .before .step .ensures) (c .byte .given .1)
 
 -- What `entry` owes of the star's row.
 abbrev star-owes : tie.After-entry Inv-loop μ-loop → Found → Table → Type 0
@@ -73,7 +73,7 @@ text-ended : tie.Need-returns Inv-loop μ-loop
 text-ended c =
     let l = c .before .before .before in
     let text = start l .args .text .now in
-    let past = step-end text (c .before .before .step .ensures) (c .enum-told .given .1) in
+    let past = step-end text _ (c .before .before .step .ensures) (c .enum-told .given .1) in
     (l .loop .inv .onward, λ e. omega (arith, List·getD-eq-default text 0 past))
 
 no-star : tie.Need-returns-2 Inv-loop μ-loop

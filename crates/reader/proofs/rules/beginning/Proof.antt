@@ -5,7 +5,7 @@ use mathlib.Core.Path.{sym, ap, _∙_}
 use Rattle.theory.specs.Table.{Table, table}
 use Rattle.reader.specs.declared.entries.Point.{Point}
 use Rattle.reader.proofs.Laid.{left-by-call}
-use Rattle.reader.proofs.Stepped.{Stepped, step-end, step-byte}
+use Rattle.columns.proofs.ByteAt.{ByteAt, step-end, step-byte}
 use Rattle.reader.proofs.Whole.{begun-empty, begun-∅, begun-expression}
 use Rattle.reader.proofs.rules.beginning.Statement.{statement}
 use Rattle.reader.proofs.rules.beginning.Tie as tie
@@ -34,8 +34,8 @@ abbrev expression-home : tie.After-slice-known9 → tie.After-left2
 expression-home c = c .before .before .before
 
 stepped : (c : tie.After-byte)
-    → let a = entered (c .before .before) .args in Stepped (a .text .now) (a .at .cursor .at) (c .byte .given .0 .0) (c .byte .given .0 .1 .0)
-stepped c = step-byte (c .before .before .step .ensures) (c .byte .given .1)
+    → let a = entered (c .before .before) .args in ByteAt (a .text .now) (a .at .cursor .at) (c .byte .given .0 .0) (c .byte .given .0 .1 .0)
+stepped c = step-byte _ _ (c .before .before .step .ensures) (c .byte .given .1)
 
 -- ---- The needs
 
@@ -43,7 +43,7 @@ text-empty : tie.Need-returns
 text-empty c =
     let s = entered (c .before .before) in
     begun-empty (s .args .at .room) (s .args .text .now) (s .args .at) (s .pre .1)
-    (step-end (s .args .text .now) (c .before .before .step .ensures) (c .enum-told .given .1))
+    (step-end (s .args .text .now) _ (c .before .before .step .ensures) (c .enum-told .given .1))
 
 entry-asked : tie.Need-entry-requires
 entry-asked c κs = (search needs, omega (arith, stepped (∅-byte c .before .before) .next))

@@ -3,7 +3,7 @@ use borrow.Author.Needs.{needs}
 use mathlib.Core.Path.{_≡_}
 use Rattle.theory.specs.Table.{Table, table}
 use Rattle.reader.proofs.Laid.{left-by-call}
-use Rattle.reader.proofs.Stepped.{step-end, step-byte}
+use Rattle.columns.proofs.ByteAt.{step-end, step-byte}
 use Rattle.reader.proofs.Whole.{whole-refused, whole-broken, whole-ended}
 use Rattle.reader.proofs.rules.whole.Statement.{statement}
 use Rattle.reader.proofs.rules.whole.Tie as tie
@@ -55,7 +55,7 @@ more-follows c =
     let s = begin (read .before .before) in
     let called = begun (read .before .before) .beginning in
     whole-broken (s .args .room) (s .args .text .now) (lent s) (left-by-call (called .last .1 .1)) (called .result) (read .found .given .1) (called .ensures)
-    (step-byte (c .before .before .step .ensures) (c .enum-told3 .given .1))
+    (step-byte _ _ (c .before .before .step .ensures) (c .enum-told3 .given .1))
 
 text-ended : tie.Need-returns-3
 text-ended c =
@@ -63,7 +63,7 @@ text-ended c =
     let s = begin (read .before .before) in
     let called = begun (read .before .before) .beginning in
     whole-ended (s .args .room) (s .args .text .now) (lent s) (left-by-call (called .last .1 .1)) (called .result) (read .found .given .1) (called .ensures)
-    (step-end (s .args .text .now) (c .before .before .step .ensures) (c .enum-told2 .given .1))
+    (step-end (s .args .text .now) _ (c .before .before .step .ensures) (c .enum-told2 .given .1))
 
 pub whole-spec : {M : Type 1} → statement M
 whole-spec =

@@ -11,7 +11,7 @@ use Rattle.reader.specs.declared.entries.Found.{Found}
 use Rattle.reader.specs.declared.entries.Found.the-variants.{Value}
 use Rattle.reader.specs.Found.{Leaf-row, Sign-at, Start, begins, Answered, Unstarred}
 use Rattle.reader.proofs.Laid.{left-by-call}
-use Rattle.reader.proofs.Stepped.{Stepped, step-end, step-byte}
+use Rattle.columns.proofs.ByteAt.{ByteAt, step-end, step-byte}
 use Rattle.reader.proofs.Answers.{end-answers, leaf-refused, leaf-made, after-positive}
 use Rattle.reader.proofs.Pair.{Inside, Left, Signed, within-pair, inside, deep-answers, left, left-refused, signed-on, signed-kind, sign-refused, right-refused, pair-answers}
 use Rattle.reader.proofs.rules.+expression+operand.Lts-operand as lts
@@ -35,9 +35,9 @@ module _ (t : ℕ) where
   inner-owes c at made columns = Answered (c .args .at .room) (c .args .text .now) (within-pair (begun c) at made columns)
 
   stepped : (c : Of t lts.After-byte)
-      → let s = byte-entry t c in Stepped (s .args .text .now) (s .args .at .cursor .at) (c .byte .given .0 .0) (c .byte .given .0 .1 .0)
+      → let s = byte-entry t c in ByteAt (s .args .text .now) (s .args .at .cursor .at) (c .byte .given .0 .0) (c .byte .given .0 .1 .0)
   stepped c =
-      step-byte (c .before .before .step .ensures) (c .byte .given .1)
+      step-byte _ _ (c .before .before .step .ensures) (c .byte .given .1)
 
   opened-at : (c : Of t lts.Else2)
       → let s = byte-entry t (opened-byte t c) in
@@ -100,7 +100,7 @@ module _ (t : ℕ) where
   text-ended c =
       let s = entry t (c .before .before) in
       end-answers (s .args .at .room) (s .args .text .now) (begun s)
-      (step-end (s .args .text .now) (c .before .before .step .ensures) (c .enum-told .given .1))
+      (step-end (s .args .text .now) _ (c .before .before .step .ensures) (c .enum-told .given .1))
 
   pub no-leaf : Of t lts.Need-returns-2
   no-leaf c =
