@@ -4,6 +4,7 @@ pub mod Printed
 pub mod Mistakes
 pub mod Limits
 pub mod DemandOne
+pub mod JudgesSo
 pub mod Handing
 pub mod DemandTwo
 pub mod DemandThree
