@@ -2,18 +2,22 @@
 -- writing is then zero, and no call is refused without that number's cause." The causes are those of `specs/`. Each number is below 16, which is
 -- the records program's own.
 use Rattle.theory.specs.Language.{Word}
-use Rattle.theory.specs.Table.{Table}
+use Rattle.theory.specs.Table.{Table, table-refusal}
 use Rattle.theory.specs.Grammar.{Text}
 use Rattle.theory.specs.Read.{Read, Entered}
 use Rattle.theory.specs.Build.{Lent, Counts, Built}
 use Rattle.theory.specs.Record.{Handed, Work}
 use Rattle.theory.specs.Judge.{Judgement, Judged}
+use Rattle.table.specs.Checked.{Scanned}
+use Rattle.table.specs.declared.Checked.{Checked}
+use Rattle.promises.specs.Table.{TableMeets}
 use Rattle.promises.specs.Reader.{ReaderMeets}
 use Rattle.promises.specs.Builder.{BuilderMeets}
 use Rattle.promises.specs.Matcher.{MatcherMeets}
 
 -- Whoever meets the contract of a call meets the demand.
 pub record DemandOne : Type 0 where
+  pub checks : (g : Table) {answer : Checked} → Scanned answer (table-refusal g) → TableMeets g answer
   pub reads : {text : Text} {t : Table} {answer : Entered} {t′ : Table} → Read text t answer t′ → ReaderMeets text t answer t′
   pub builds : {g : Table} {c : Lent} {answer : Counts} {c′ : Lent} → Built g c answer c′ → BuilderMeets g c answer c′
   pub judges : {h : Handed} {w : Word} {k : Work} {answer : Judgement} {k′ : Work} → Judged h w k answer k′ → MatcherMeets h k answer k′

@@ -13,3 +13,4 @@ pub mod DemandThree
 pub mod ReadThenBuild
 pub mod TextToVerdict
 pub mod Once
+pub mod Answers

@@ -1,12 +1,15 @@
--- Refusals 1 to 8 of an expression table: the cause of each, in the order of 01's table.
+-- Demand 1 at `table::check`, and refusals 1 to 8 of an expression table wherever it is handed over: the cause of each, in the order of 01's table.
 use Prim.Native.Nat.{ℕ, pred, _≤_, _<_}
 use mathlib.Core.Path.{_≡_}
+use mathlib.Core.Logic.{_↔_}
 use mathlib.Core.Bool.{true}
 use mathlib.Core.List.{List·Memᴰ}
-use Rattle.theory.specs.Refusal.{Refusal, refusal, success, columns-differ, table-empty, table-long, kind-unknown, field-outside, child-not-smaller, empty-language-inside, not-named-once}
+use Rattle.theory.specs.Refusal.{Refusal, refusal, success, columns-differ, table-empty, table-long, kind-unknown, field-outside, child-not-smaller, empty-language-inside, not-named-once, room-small}
 use Rattle.theory.specs.Kind as Kind
 use Rattle.theory.specs.Limit.{most-entries}
 use Rattle.theory.specs.Table.{Table, Row, row, size, meaning, fields-fit, row-children, times, named, SameLengths, Faultless, WellFormed}
+use Rattle.table.specs.Checked.{refusal-of}
+use Rattle.table.specs.declared.Checked.{Checked}
 
 -- The fields of a row that hold no child are as 01's table of kinds has them, or they are not.
 abbrev pub FieldsFit : Row → Type 0
@@ -42,3 +45,8 @@ pub data TableCause (g : Table) : Refusal → Type 0 where
   not-once : Sized g → FaultlessBefore g (size g) → (p : ℕ) → p < pred (size g) → ((i : ℕ) → i < p → NamedOnce g i) → ¬ NamedOnce g p
       → TableCause g (refusal not-named-once p)
   none : WellFormed g → TableCause g success
+
+-- What demand 1 asks of a check, which writes nothing: a refusal is given exactly where there is cause for it.
+pub record TableMeets (g : Table) (answer : Checked) : Type 0 where
+  pub exact : (r : Refusal) → (refusal-of answer ≡ r) ↔ TableCause g r
+  pub numbered : (refusal-of answer) .number < room-small

@@ -11,23 +11,26 @@ use borrow.Author.Tests.{eqb-true, eqb-false, eq-eqb, ne-eqb, ltb-true, ltb-fals
 use Rattle.theory.specs.Kind as Kind
 use Rattle.theory.specs.Limit.{most-entries}
 use Rattle.theory.specs.Refusal.{Refusal, refusal, success, or-else, kind-unknown, field-outside, child-not-smaller, empty-language-inside}
-use Rattle.theory.specs.Table.{Table, Row, row, size, meaning, children, fields-fit, row-children, all-below, entry-fault, naming-fault, first-fault, table-refusal, SameLengths, Faultless, WellFormed}
+use Rattle.theory.specs.Table.{Table, Row, row, size, meaning, children, fields-fit, row-children, all-smaller, entry-fault, naming-fault, first-fault, table-refusal, SameLengths, Faultless, WellFormed}
 use Rattle.theory.proofs.Tests.{false-of, true-of}
 use Rattle.theory.proofs.TableRefusal.{refused-differ, refused-empty, refused-long, refused-later}
 use Rattle.theory.proofs.Times.{fault-none, fault-found, once-of}
 use Rattle.theory.proofs.FirstFound.{Scanned, clean, faulty, scanned, scanned-once}
 use Rattle.theory.proofs.WellFormed.{smaller-of}
-use Rattle.promises.specs.Table.{EntryCause, unknown, outside, not-smaller, inside, Sized, FaultlessBefore, NamedOnce, TableCause, differ, empty, long, entry, not-once, none}
+use Rattle.table.specs.Checked as check
+use Rattle.table.specs.declared.Checked.{Checked}
+use Rattle.promises.proofs.Causes.Exactly.{exactly}
+use Rattle.promises.specs.Table.{TableMeets, EntryCause, unknown, outside, not-smaller, inside, Sized, FaultlessBefore, NamedOnce, TableCause, differ, empty, long, entry, not-once, none}
 
 -- ---- One entry
 
 -- The first child that is not smaller, where the test fails.
-larger-found : (i : ℕ) (cs : List ℕ) → all-below i cs ≡ false → (c : ℕ) × List·Memᴰ c cs × (i ≤ c)
-unfolding all-below
+larger-found : (i : ℕ) (cs : List ℕ) → all-smaller i cs ≡ false → (c : ℕ) × List·Memᴰ c cs × (i ≤ c)
+unfolding all-smaller
 larger-found i [] e = absurd (false≢true (sym e))
 larger-found i (d ∷ ds) e = go (ltb d i) refl e (larger-found i ds)
   where
-    go : (b : Bool) → ltb d i ≡ b → (b && all-below i ds) ≡ false → (all-below i ds ≡ false → (c : ℕ) × List·Memᴰ c ds × (i ≤ c))
+    go : (b : Bool) → ltb d i ≡ b → (b && all-smaller i ds) ≡ false → (all-smaller i ds ≡ false → (c : ℕ) × List·Memᴰ c ds × (i ≤ c))
         → (c : ℕ) × List·Memᴰ c (d ∷ ds) × (i ≤ c)
     go true q h ih = let (c, m, l) = ih h in (c, List·Memᴰ·tail m, l)
     go false q h ih = (d, List·Memᴰ·head refl, ltb-false d i q)
@@ -44,10 +47,10 @@ module _ (n i : ℕ) (w : Row) where
   examined : Examined n i w (entry-fault n i w)
   unfolding entry-fault ordered
   examined =
-      go (ltb Kind.last (w .kind)) (fields-fit (meaning (w .kind)) (w .left) (w .right)) (all-below i (row-children w)) (eqb (w .kind) 0) (ltb 1 n) refl refl refl refl
+      go (ltb Kind.last (w .kind)) (fields-fit (meaning (w .kind)) (w .left) (w .right)) (all-smaller i (row-children w)) (eqb (w .kind) 0) (ltb 1 n) refl refl refl refl
       refl
     where
-      go : (a b c d e : Bool) → ltb Kind.last (w .kind) ≡ a → fields-fit (meaning (w .kind)) (w .left) (w .right) ≡ b → all-below i (row-children w) ≡ c
+      go : (a b c d e : Bool) → ltb Kind.last (w .kind) ≡ a → fields-fit (meaning (w .kind)) (w .left) (w .right) ≡ b → all-smaller i (row-children w) ≡ c
           → eqb (w .kind) 0 ≡ d → ltb 1 n ≡ e → Examined n i w (ordered a b c d e)
       go true b c d e p q r s u = wrong (unknown (ltb-true Kind.last (w .kind) p)) (λ z. omega arith)
       go false false c d e p q r s u = wrong (outside (ltb-false Kind.last (w .kind) p) (λ f. false≢true (sym q ∙ f))) (λ z. omega arith)
@@ -64,12 +67,12 @@ module _ (n i : ℕ) (w : Row) where
             alone = λ k. absurd (eqb-false (w .kind) 0 s k);
           })
 
-  due : {a b c d e : Bool} → ltb Kind.last (w .kind) ≡ a → fields-fit (meaning (w .kind)) (w .left) (w .right) ≡ b → all-below i (row-children w) ≡ c
+  due : {a b c d e : Bool} → ltb Kind.last (w .kind) ≡ a → fields-fit (meaning (w .kind)) (w .left) (w .right) ≡ b → all-smaller i (row-children w) ≡ c
       → eqb (w .kind) 0 ≡ d → ltb 1 n ≡ e → entry-fault n i w ≡ ordered a b c d e
   unfolding entry-fault ordered
   due p q r s u = λ j. ordered (p j) (q j) (r j) (s j) (u j)
 
-  smaller-passes : ((c : ℕ) → List·Memᴰ c (row-children w) → c < i) → all-below i (row-children w) ≡ true
+  smaller-passes : ((c : ℕ) → List·Memᴰ c (row-children w) → c < i) → all-smaller i (row-children w) ≡ true
   smaller-passes h =
       true-of _ (λ f. let (c, m, l) = larger-found i (row-children w) f in let k = h c m in omega arith)
 
@@ -199,3 +202,11 @@ module _ (g : Table) where
   table-clear (entry v p l h c) z = absurd (a-fault (size g) p (row g p) c z)
   table-clear (not-once v h p l o n) z = absurd (omega arith)
   table-clear (none w) z = (w, refl)
+
+-- ---- The demand
+
+pub table-meets : (g : Table) {answer : Checked} → check.Scanned answer (table-refusal g) → TableMeets g answer
+table-meets g h = record {
+  exact = exactly (TableCause g) (h .is) (table-caused g) (λ r. table-due g);
+  numbered = let l = table-numbered g (table-caused g) in let e = ap (λ (r : Refusal). r .number) (h .is) in omega arith;
+}
