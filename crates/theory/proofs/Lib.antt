@@ -5,6 +5,7 @@ pub mod Distinct
 pub mod Repeats
 pub mod Members
 pub mod Language
+pub mod Pair
 pub mod Derivative
 pub mod Support
 pub mod States
