@@ -1,31 +1,62 @@
--- Finding or adding a row: what the code's three ways give. Assumes nothing.
+-- A row found, one that has no room, and one added: what each of these is to the rows that were there.
 use Prim.Native.Nat.{ℕ, _+_, _≤_, _<_}
 use native.Mathlib.Nat.{lt-of-lt-of-le}
 use native.Mathlib.Omega.{arith}
-use mathlib.Core.Path.{_≡_, sym, ap, _∙_, subst}
-use mathlib.Core.List.{List·Memᴰ, List·Memᴰ·tail}
+use mathlib.Core.Path.{_≡_, refl, sym, ap, _∙_, subst}
+use mathlib.Core.Logic.{inl, inr, ⊎-elim}
+use mathlib.Core.List.{List·Memᴰ, List·Memᴰ·cases-cons}
 use lib.ListN.{length}
-use Rattle.theory.specs.Table.{Table, Row, row, entry, Sound, trees, row-tree}
+use Rattle.theory.specs.Expression.{Expression}
+use Rattle.theory.specs.Table.{Table, Row, row, Sound, trees, tree-at, row-tree}
 use Rattle.theory.proofs.Trees.{trees-of}
-use Rattle.derive.specs.Rows.{Rows, FirstRow, Interns}
 use Rattle.derive.specs.declared.rows.Interned.the-variants.{At, Full}
-use Rattle.derive.proofs.Growing.{rows-tree, row-found, grown-none, with-row, new-tree, one-more, one-more-within}
+use Rattle.derive.specs.Rows.{Fitted, FirstRow, Came, Interns}
+use Rattle.derive.proofs.Coming.{came-none}
+use Rattle.derive.proofs.Growing.{rows-tree, row-found, with-row, new-tree, one-more, one-more-within}
 
-module _ {t : Table} {n room : ℕ} {w : Row} (h : Rows t n) (space : n ≤ room) (s : Sound n w) where
+-- The tree of a row that is there.
+pub intern-there : {t : Table} {n room : ℕ} {e : Expression} {i : ℕ} → Fitted t n room → i < n → tree-at t i ≡ e → Interns t n room e (At i n) t
+intern-there {e = e} f l q = record { answer = record { came = came-none (λ z. z ≡ e) f; there = l; is = q } }
+
+module _ {t : Table} {n room : ℕ} {w : Row} (f : Fitted t n room) (s : Sound n w) where
   pub intern-found : {i : ℕ} → i < n → row t i ≡ w → Interns t n room (row-tree w (trees t n)) (At i n) t
-  intern-found {i} l e =
-      (grown-none h, space, l, rows-tree h l ∙ ap (λ v. row-tree v (trees t n)) e, λ z m. List·Memᴰ·tail m)
+  intern-found l e = intern-there f l (rows-tree (f .rows) l ∙ ap (λ v. row-tree v (trees t n)) e)
 
-  -- A row that the search did not find is not there.
-  pub intern-absent : {start i : ℕ} → ((j : ℕ) → Sound j w → start ≤ j) → FirstRow t n start w i → n ≤ i → List·Memᴰ (row-tree w (trees t n)) (trees t n) → ⊥
-  intern-absent behind first all m =
-      let r = trees-of t n m in
-      let e = row-found h s (r .1) (sym (r .2)) in
-      first .before (r .0) (behind (r .0) (subst (Sound (r .0)) e (h .sound (r .0) (r .1)))) (lt-of-lt-of-le (r .1) all) e
+  module _ {start i : ℕ} (behind : (j : ℕ) → Sound j w → start ≤ j) (first : FirstRow t n start w i) (all : n ≤ i) where
+    -- A row that the search did not find is not there.
+    absent : List·Memᴰ (row-tree w (trees t n)) (trees t n) → ⊥
+    absent m =
+        let r = trees-of t n m in
+        let e = row-found (f .rows) s (r .1) (sym (r .2)) in
+        first .before (r .0) (behind (r .0) (subst (Sound (r .0)) e (f .rows .sound (r .0) (r .1)))) (lt-of-lt-of-le (r .1) all) e
 
-pub intern-new : {t : Table} {n room k l r : ℕ} → Rows t n → n < room → room ≤ length (t .kind) → Sound n (entry k l r)
-    → (List·Memᴰ (row-tree (entry k l r) (trees t n)) (trees t n) → ⊥)
-    → Interns t n room (row-tree (entry k l r) (trees t n)) (At n (n + 1)) (with-row t n k l r)
-intern-new {t} {n} {room} {k} {l} {r} h below fits s new =
-    let space : n < length (t .kind) = lt-of-lt-of-le below fits in
-    (one-more t n k l r h space s new, omega arith, omega arith, new-tree t n k l r h space s new, one-more-within t n k l r h space s new)
+    pub intern-full : room ≤ n → Interns t n room (row-tree w (trees t n)) Full t
+    intern-full l =
+        let e : n ≡ room = omega (arith, f .fits) in
+        let x = row-tree w (trees t n) in
+        record {
+          answer =
+              record {
+                came = subst (λ (k : ℕ). Came t n room (λ z. z ≡ x) t k) e (came-none (λ z. z ≡ x) f);
+                missing = x;
+                needed = refl;
+                absent = λ m. absent (subst (λ (k : ℕ). List·Memᴰ x (trees t k)) (sym e) m);
+              };
+        }
+
+    pub intern-new : n < room → Interns t n room (row-tree w (trees t n)) (At n (n + 1)) (with-row t n w)
+    intern-new below =
+        let space : n < length (t .kind) = lt-of-lt-of-le below (f .in-columns) in
+        record {
+          answer =
+              record {
+                came =
+                    record {
+                      grown = one-more t n w (f .rows) space s absent;
+                      fits = omega arith;
+                      each = λ z m. ⊎-elim inr inl (List·Memᴰ·cases-cons (one-more-within t n w (f .rows) space s absent z m));
+                    };
+                there = omega arith;
+                is = new-tree t n w (f .rows) space s absent;
+              };
+        }

@@ -1,67 +1,58 @@
--- A member joined with a side's other tree, as a row. Assumes nothing.
-use Prim.Native.Nat.{ℕ, _≤_, _<_}
-use mathlib.Core.Path.{_≡_, sym, ap, ap₂, _∙_}
-use mathlib.Core.Bool.{Bool, true, false, cond}
-use mathlib.Core.List.{List·Memᴰ·tail}
-use Rattle.theory.specs.Expression.{Expression, binary}
-use Rattle.theory.specs.Table.{Table, entry, tree-at, trees, row-tree, Sound, of-sign}
+-- A member joined with a side's other tree, as a row: one of the two rows, or the sign's row over both.
+use Prim.Native.Nat.{ℕ, _<_}
+use mathlib.Core.Path.{_≡_, refl, sym, ap, ap₂, _∙_, subst}
+use Rattle.theory.specs.Expression.{pair}
+use Rattle.theory.specs.Table.{Table, Row, entry, kind-of-sign, tree-at, trees, row-tree, Sound, of-sign}
 use Rattle.theory.proofs.Sound.{sign-tree}
 use Rattle.theory.proofs.Trees.{trees-below}
+use Rattle.derive.specs.declared.rows.Interned.{Interned}
 use Rattle.derive.specs.declared.rows.Interned.the-variants.{At}
-use Rattle.derive.specs.Rows.{Rows, Interns}
-use Rattle.derive.specs.Sides.{side-sign, beside}
-use Rattle.derive.proofs.Growing.{grown-none}
-use Rattle.derive.proofs.Joining.{pair, beside-literal, beside-ε, beside-pair}
-use Rattle.derive.proofs.Lowering.{sign-kind, not-ε}
+use Rattle.derive.specs.declared.sides.Join.{Join}
+use Rattle.derive.specs.declared.sides.Join.the-variants.{Followed, Shuffled, Shuffles}
+use Rattle.derive.specs.Rows.{Fitted, Interns}
+use Rattle.derive.specs.Sides.{join-sign, arranged, beside}
+use Rattle.derive.proofs.Growing.{not-ε}
+use Rattle.derive.proofs.Interning.{intern-there}
+use Rattle.derive.proofs.Joining.{paired, beside-literal, beside-ε, beside-pair}
 
-pub joins-sound : {n kind l r : ℕ} → 4 ≤ kind → kind ≤ 5 → l < n → r < n → Sound n (entry kind l r)
-joins-sound {kind = kind} {l = l} {r = r} low high hl hr =
-    of-sign (side-sign kind) l r hl hr (ap (λ (k : ℕ). entry k l r) (sym (sign-kind kind low high)))
+-- The row of a member's row joined with the other row.
+abbrev joined-row : Join → ℕ → ℕ → Row
+joined-row j other member = arranged j (entry (kind-of-sign (join-sign j))) member other
 
--- The tree of a member's row joined with the other row's tree.
-abbrev pub join-at : Table → ℕ → ℕ → Bool → ℕ → Expression
-join-at t other kind first member = beside (side-sign kind) (tree-at t other) first (tree-at t member)
+module _ {t : Table} {n room other member : ℕ} (f : Fitted t n room) (there : (other < n) × (member < n)) (j : Join) where
+  pub lift-literal : other ≡ 0 → Interns t n room (beside j (tree-at t other) (tree-at t member)) (At member n) t
+  lift-literal e =
+      intern-there f (there .1) (sym (ap (λ o. beside j o (tree-at t member)) (ap (tree-at t) e ∙ f .rows .literal) ∙ beside-literal j (tree-at t member)))
 
--- What the join asks of its rows.
-pub record Lifts (t : Table) (n room other member kind : ℕ) : Type 0 where
-  pub rows : Rows t n
-  pub space : n ≤ room
-  pub other-within : other < n
-  pub member-within : member < n
-  pub low : 4 ≤ kind
-  pub high : kind ≤ 5
+  pub lift-empty : member ≡ 0 → Interns t n room (beside j (tree-at t other) (tree-at t member)) (At other n) t
+  lift-empty e =
+      intern-there f (there .0) (sym (ap (beside j (tree-at t other)) (ap (tree-at t) e ∙ f .rows .literal) ∙ beside-ε j (tree-at t other)))
 
-module _ {t : Table} {n room other member kind : ℕ} (k : Lifts t n room other member kind) (first : Bool) where
-  pub lift-literal : other ≡ 0 → Interns t n room (join-at t other kind first member) (At member n) t
-  lift-literal e = (
-    grown-none (k .rows),
-    k .space,
-    k .member-within,
-    sym (ap (λ o. beside (side-sign kind) o first (tree-at t member)) (ap (tree-at t) e ∙ k .rows .literal) ∙ beside-literal (side-sign kind) first (tree-at t member)),
-    λ z m. List·Memᴰ·tail m,
-  )
+  -- The row is sound, and its tree is the join's.
+  joined-sound : (i : Join) → Sound n (joined-row i other member)
+  joined-sound Followed = of-sign (join-sign Followed) member other (there .1) (there .0) refl
+  joined-sound Shuffled = of-sign (join-sign Shuffled) member other (there .1) (there .0) refl
+  joined-sound Shuffles = of-sign (join-sign Shuffles) other member (there .0) (there .1) refl
 
-  pub lift-empty : member ≡ 0 → Interns t n room (join-at t other kind first member) (At other n) t
-  lift-empty e = (
-    grown-none (k .rows),
-    k .space,
-    k .other-within,
-    sym (ap (beside (side-sign kind) (tree-at t other) first) (ap (tree-at t) e ∙ k .rows .literal) ∙ beside-ε (side-sign kind) (tree-at t other) first),
-    λ z m. List·Memᴰ·tail m,
-  )
+  joined-tree : (i : Join) → row-tree (joined-row i other member) (trees t n) ≡ paired i (tree-at t other) (tree-at t member)
+  joined-tree Followed =
+      sign-tree (join-sign Followed) member other (trees t n)
+      ∙ ap₂ (pair (join-sign Followed)) (trees-below t n member (there .1)) (trees-below t n other (there .0))
+  joined-tree Shuffled =
+      sign-tree (join-sign Shuffled) member other (trees t n)
+      ∙ ap₂ (pair (join-sign Shuffled)) (trees-below t n member (there .1)) (trees-below t n other (there .0))
+  joined-tree Shuffles =
+      sign-tree (join-sign Shuffles) other member (trees t n)
+      ∙ ap₂ (pair (join-sign Shuffles)) (trees-below t n other (there .0)) (trees-below t n member (there .1))
 
-  entry-tree : {l r : ℕ} → l < n → r < n → row-tree (entry kind l r) (trees t n) ≡ binary (side-sign kind) (tree-at t l) (tree-at t r)
-  entry-tree {l} {r} hl hr =
-      ap (λ (j : ℕ). row-tree (entry j l r) (trees t n)) (sym (sign-kind kind (k .low) (k .high))) ∙ sign-tree (side-sign kind) l r (trees t n)
-      ∙ ap₂ (binary (side-sign kind)) (trees-below t n l hl) (trees-below t n r hr)
+  module _ {w : Row} (is : w ≡ joined-row j other member) where
+    pub lift-sound : Sound n w
+    lift-sound = subst (Sound n) (sym is) (joined-sound j)
 
-  pair-tree : (b : Bool) → row-tree (entry kind (cond b member other) (cond b other member)) (trees t n) ≡ pair (side-sign kind) (tree-at t other) b (tree-at t member)
-  pair-tree true = entry-tree (k .member-within) (k .other-within)
-  pair-tree false = entry-tree (k .other-within) (k .member-within)
-
-  pub lift-pair : (other ≡ 0 → ⊥) → (member ≡ 0 → ⊥) → (b : Bool) → first ≡ b
-      → row-tree (entry kind (cond b member other) (cond b other member)) (trees t n) ≡ join-at t other kind first member
-  lift-pair d c b e =
-      pair-tree b ∙ ap (λ (f : Bool). pair (side-sign kind) (tree-at t other) f (tree-at t member)) (sym e)
-      ∙ sym
-      (beside-pair (side-sign kind) (tree-at t other) first (tree-at t member) (not-ε (k .rows) (k .other-within) d) (not-ε (k .rows) (k .member-within) c))
+    pub lift-pair : {t′ : Table} {r : Interned} → (other ≡ 0 → ⊥) → (member ≡ 0 → ⊥) → Interns t n room (row-tree w (trees t n)) r t′
+        → Interns t n room (beside j (tree-at t other) (tree-at t member)) r t′
+    lift-pair {t′} {r} d c h =
+        subst (λ e. Interns t n room e r t′)
+        (ap (λ v. row-tree v (trees t n)) is ∙ joined-tree j
+        ∙ sym (beside-pair j (tree-at t other) (tree-at t member) (not-ε (f .rows) (there .0) d) (not-ε (f .rows) (there .1) c)))
+        h

@@ -1,11 +1,11 @@
--- What stands behind a member of a list, and the members of a list that another does not have. Assumes nothing.
+-- What stands after a member of a list, and the members of a list that another does not have.
 use mathlib.Core.Path.{_≡_, refl, sym, ap, _∙_, subst}
 use mathlib.Core.Logic.{_⊎_, inl, inr}
 use mathlib.Core.Option.{Option, none, some, Option·some-injective}
 use mathlib.Core.List.{List, [], _∷_, _++_, map, List·Memᴰ, List·Memᴰ·head, List·Memᴰ·tail, List·Memᴰ·cases-cons, List·Memᴰ·not-nil, Memᴰ·cast, Memᴰ·of-map}
 use Rattle.theory.specs.Expression.{Expression, same}
-use Rattle.theory.specs.Distinct.{without, distinct, unless, NoRepeats, Within, beyond}
-use Rattle.theory.proofs.Distinct.{member?, distinct-same, distinct-append, beyond-of}
+use Rattle.theory.specs.Distinct.{without, distinct, NoRepeats, Within, beyond}
+use Rattle.theory.proofs.Distinct.{member?, without-here, without-other, distinct-same, distinct-append}
 use Rattle.derive.specs.Walk.{if-yes, behind, first-of}
 
 -- ---- The first member
@@ -29,7 +29,7 @@ pub first-map : (f : Expression → Expression) (xs : List Expression) {z : Expr
 first-map f [] e = cc
 first-map f (x ∷ xs) {z} e = ap {B = Option Expression} (λ y. some (f y)) (Option·some-injective x z e)
 
--- ---- Behind a member
+-- ---- After a member
 
 behind-here : (p x : Expression) (xs : List Expression) → p ≡ x → behind p (x ∷ xs) ≡ xs
 unfolding behind
@@ -71,7 +71,7 @@ behind-second p [] ys n = refl
 behind-second p (x ∷ xs) ys n =
     behind-later p x (xs ++ ys) (λ e. n (List·Memᴰ·head e)) ∙ behind-second p xs ys (λ m. n (List·Memᴰ·tail m))
 
--- A function that tells its argument takes what stands behind p to what stands behind its value.
+-- A function that tells its argument takes what stands after p to what stands after its value.
 pub behind-map : (f : Expression → Expression) → ((x y : Expression) → f x ≡ f y → x ≡ y) → (p : Expression) (xs : List Expression)
     → behind (f p) (map f xs) ≡ map f (behind p xs)
 unfolding behind
@@ -104,27 +104,11 @@ behind-head q ys = behind-here q q ys refl
 
 -- ---- The members that another list does not have
 
-without-here : (x y : Expression) (ys : List Expression) → x ≡ y → without same x (y ∷ ys) ≡ without same x ys
-unfolding without
-without-here x y ys e = go (same x y)
-  where
-    go : (d : Dec (x ≡ y)) → unless d y (without same x ys) ≡ without same x ys
-    go (yes p) = refl
-    go (no n) = absurd (n e)
-
-without-other : (x y : Expression) (ys : List Expression) → (x ≡ y → ⊥) → without same x (y ∷ ys) ≡ y ∷ without same x ys
-unfolding without
-without-other x y ys n = go (same x y)
-  where
-    go : (d : Dec (x ≡ y)) → unless d y (without same x ys) ≡ y ∷ without same x ys
-    go (yes p) = absurd (n p)
-    go (no k) = refl
-
 pub beyond-keep : (xs : List Expression) (y : Expression) (ys : List Expression) → (List·Memᴰ y xs → ⊥) → beyond same xs (y ∷ ys) ≡ y ∷ beyond same xs ys
 unfolding beyond
 beyond-keep [] y ys n = refl
 beyond-keep (x ∷ xs) y ys n =
-    ap (without same x) (beyond-keep xs y ys (λ m. n (List·Memᴰ·tail m))) ∙ without-other x y (beyond same xs ys) (λ e. n (List·Memᴰ·head (sym e)))
+    ap (without same x) (beyond-keep xs y ys (λ m. n (List·Memᴰ·tail m))) ∙ without-other same x y (beyond same xs ys) (λ e. n (List·Memᴰ·head (sym e)))
 
 pub beyond-pass : (xs : List Expression) (y : Expression) (ys : List Expression) → List·Memᴰ y xs → beyond same xs (y ∷ ys) ≡ beyond same xs ys
 unfolding beyond
@@ -134,11 +118,8 @@ beyond-pass (x ∷ xs) y ys m = go (member? same y xs) (List·Memᴰ·cases-cons
     go : Dec (List·Memᴰ y xs) → (y ≡ x) ⊎ List·Memᴰ y xs → (List·Memᴰ y xs → beyond same xs (y ∷ ys) ≡ beyond same xs ys)
         → without same x (beyond same xs (y ∷ ys)) ≡ without same x (beyond same xs ys)
     go (yes k) c ih = ap (without same x) (ih k)
-    go (no n) (inl e) ih = ap (without same x) (beyond-keep xs y ys n) ∙ without-here x y (beyond same xs ys) (sym e)
+    go (no n) (inl e) ih = ap (without same x) (beyond-keep xs y ys n) ∙ without-here same x y (beyond same xs ys) (sym e)
     go (no n) (inr k) ih = absurd (n k)
-
-pub beyond-within : (xs ys : List Expression) → Within (beyond same xs ys) ys
-beyond-within xs ys z m = (beyond-of same xs ys m) .0
 
 pub distinct-beyond : (xs ys : List Expression) → NoRepeats xs → NoRepeats ys → distinct same (xs ++ ys) ≡ xs ++ beyond same xs ys
 distinct-beyond xs ys r s = distinct-append same xs ys ∙ rw (distinct-same same xs r, distinct-same same ys s)
@@ -151,11 +132,11 @@ behind-without p x (y ∷ ys) n = go (same x y) (same p y) (behind-without p x y
     go : Dec (x ≡ y) → Dec (p ≡ y) → behind p (without same x ys) ≡ without same x (behind p ys)
         → behind p (without same x (y ∷ ys)) ≡ without same x (behind p (y ∷ ys))
     go (yes e) (yes k) ih = absurd (n (k ∙ sym e))
-    go (yes e) (no k) ih = ap (behind p) (without-here x y ys e) ∙ ih ∙ sym (ap (without same x) (behind-later p y ys k))
+    go (yes e) (no k) ih = ap (behind p) (without-here same x y ys e) ∙ ih ∙ sym (ap (without same x) (behind-later p y ys k))
     go (no e) (yes k) ih =
-        ap (behind p) (without-other x y ys e) ∙ behind-here p y (without same x ys) k ∙ sym (ap (without same x) (behind-here p y ys k))
+        ap (behind p) (without-other same x y ys e) ∙ behind-here p y (without same x ys) k ∙ sym (ap (without same x) (behind-here p y ys k))
     go (no e) (no k) ih =
-        ap (behind p) (without-other x y ys e) ∙ behind-later p y (without same x ys) k ∙ ih ∙ sym (ap (without same x) (behind-later p y ys k))
+        ap (behind p) (without-other same x y ys e) ∙ behind-later p y (without same x ys) k ∙ ih ∙ sym (ap (without same x) (behind-later p y ys k))
 
 pub behind-beyond : (p : Expression) (xs ys : List Expression) → (List·Memᴰ p xs → ⊥) → behind p (beyond same xs ys) ≡ beyond same xs (behind p ys)
 unfolding beyond

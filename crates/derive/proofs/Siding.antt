@@ -1,153 +1,167 @@
--- The list of a derivative is what its two sides have, without repeats, and the sides name rows that are there. Assumes nothing.
-use Prim.Native.Nat.{ℕ, zero, suc, _≤_, _<_}
-use native.Mathlib.Omega.{arith}
+-- The list of a derivative is what its two sides have, without repeats, and the sides name rows that are there.
+use Prim.Native.Nat.{ℕ, suc, _<_}
+use native.Mathlib.Nat.{le-refl, le-trans, le-of-lt}
 use mathlib.Core.Path.{_≡_, refl, sym, ap, ap₂, _∙_, subst}
 use mathlib.Core.Bool.{Bool, true, false, cond}
-use mathlib.Core.Logic.{_⊎_, inl, inr}
-use mathlib.Core.List.{[], _++_, map, append-nil}
-use lib.Dec.{eqb}
-use borrow.Author.Tests.{ne-eqb}
-use Rattle.theory.specs.Expression.{Expression, same, Sign, binary, union, concatenation, shuffle}
+use mathlib.Core.List.{List, [], _++_, map, append-nil}
+use Rattle.theory.specs.Kind
+use Rattle.theory.specs.Expression.{Expression, same, Sign, binary, star, union, concatenation, shuffle}
 use Rattle.theory.specs.Distinct.{distinct, NoRepeats}
 use Rattle.theory.specs.Derivative.{joined, derivative, empty-word}
-use Rattle.theory.specs.Table.{Table, Row, row, tree-at, kind-of-sign}
-use Rattle.theory.proofs.Derivative.{gathered, derivative-gathered, derivative-no-repeats}
-use Rattle.theory.proofs.KindOf.{sound-kind, sound-left, sound-right, tree-∅, tree-ε, tree-sign, tree-star}
+use Rattle.theory.specs.Table.{Table, Row, row, tree-at, kind-of-sign, Meaning, ∅-kind, ε-kind, letter-kind, sign-kind, star-kind, unknown-kind, meaning}
+use Rattle.theory.proofs.Derivative.{gathered, derivative-gathered, derivative-pair, derivative-no-repeats}
+use Rattle.theory.proofs.Meaning.{Numbered, numbered, meaning-is, kind-is}
 use Rattle.theory.proofs.Members.{map-same}
+use Rattle.theory.proofs.Rooted.{Rooted, ∅-row, ε-row, letter-row, sign-row, star-row, rooted, sign-rooted}
+use Rattle.derive.specs.declared.sides.Join.the-variants.{Followed}
 use Rattle.derive.specs.declared.sides.Side.{Side}
 use Rattle.derive.specs.declared.sides.Side.the-variants.{Nothing, Of}
 use Rattle.derive.specs.Rows.{Rows, SoundTo}
-use Rattle.derive.specs.Sides.{Within-row, side-sign, beside, side-list, pick, left-side, right-side}
+use Rattle.derive.specs.Sides.{Within-row, beside, side-list, pick, left-of, right-of, left-side, right-side}
+use Rattle.derive.proofs.Growing.{sound-to-less}
 use Rattle.derive.proofs.Joining.{beside-literal, beside-tells}
 use Rattle.derive.proofs.Listing.{map-no-repeats}
 
--- ---- The sides by the number of the kind
-
--- left-side and right-side of a row (k, l, r) with the number i; `e` is whether the left part has the empty word
-abbrev pub left-of : ℕ → ℕ → ℕ → ℕ → Side
-left-of k l r i = pick (eqb k 3) (Of l 0 4 true) (pick (eqb k 4) (Of l r 4 true) (pick (eqb k 5) (Of l r 5 true) (pick (eqb k 6) (Of l i 4 true) Nothing)))
-
-abbrev pub right-of : ℕ → ℕ → ℕ → Bool → Side
-right-of k l r e = pick (eqb k 3) (Of r 0 4 true) (pick (eqb k 4) (pick e (Of r 0 4 true) Nothing) (pick (eqb k 5) (Of r l 5 false) Nothing))
-
-pub rows-sound-to : {t : Table} {n i : ℕ} → Rows t n → i < n → SoundTo t i
-rows-sound-to h l =
-    let within = h .within in
-    let left = h .left-length in
-    let right = h .right-length in
-    record { in-kind = omega arith; in-left = omega arith; in-right = omega arith; sound = λ j m. h .sound j (omega arith) }
+-- ---- The sides of a row that is read
 
 -- w is row i as the code has read it.
-module _ {t : Table} {i : ℕ} {w : Row} (s : SoundTo t i) (e : w ≡ row t i) where
-  pub left-read : (k : ℕ) → w .kind ≡ k → left-of k (w .left) (w .right) i ≡ left-side t i
+module _ (t : Table) (i : ℕ) {w : Row} (e : w ≡ row t i) where
+  pub left-as : (m : Meaning) → Numbered m (w .kind) → left-of m (w .left) (w .right) i ≡ left-side t i
   unfolding left-side
-  left-read k q = ap (λ (j : ℕ). left-of j (w .left) (w .right) i) (sym q) ∙ ap (λ (v : Row). left-of (v .kind) (v .left) (v .right) i) e
+  left-as m h =
+      ap (λ k. left-of k (w .left) (w .right) i) (sym (meaning-is m (w .kind) h))
+      ∙ ap (λ (v : Row). left-of (meaning (v .kind)) (v .left) (v .right) i) e
 
-  pub left-read-join : (w .kind ≡ 4) ⊎ (w .kind ≡ 5) → Of (w .left) (w .right) (w .kind) true ≡ left-side t i
-  left-read-join (inl q) = ap (λ (k : ℕ). Of (w .left) (w .right) k true) q ∙ left-read 4 q
-  left-read-join (inr q) = ap (λ (k : ℕ). Of (w .left) (w .right) k true) q ∙ left-read 5 q
-
-  pub left-read-none : (w .kind ≡ 3 → ⊥) → (w .kind ≡ 4 → ⊥) → (w .kind ≡ 5 → ⊥) → (w .kind ≡ 6 → ⊥) → Nothing ≡ left-side t i
-  left-read-none a b c d = sym (simp (ne-eqb (w .kind) 3 a, ne-eqb (w .kind) 4 b, ne-eqb (w .kind) 5 c, ne-eqb (w .kind) 6 d)) ∙ left-read (w .kind) refl
-
-  pub right-read : (k : ℕ) → w .kind ≡ k → right-of k (w .left) (w .right) (empty-word (tree-at t (w .left))) ≡ right-side t i
+  pub right-as : (m : Meaning) → Numbered m (w .kind) → right-of m (w .left) (w .right) (empty-word (tree-at t (w .left))) ≡ right-side t i
   unfolding right-side
-  right-read k q =
-      ap (λ (j : ℕ). right-of j (w .left) (w .right) (empty-word (tree-at t (w .left)))) (sym q)
-      ∙ ap (λ (v : Row). right-of (v .kind) (v .left) (v .right) (empty-word (tree-at t (v .left)))) e
+  right-as m h =
+      ap (λ k. right-of k (w .left) (w .right) (empty-word (tree-at t (w .left)))) (sym (meaning-is m (w .kind) h))
+      ∙ ap (λ (v : Row). right-of (meaning (v .kind)) (v .left) (v .right) (empty-word (tree-at t (v .left)))) e
 
-  pub right-read-after : (b : Bool) → b ≡ empty-word (tree-at t (w .left)) → w .kind ≡ 4 → pick b (Of (w .right) 0 4 true) Nothing ≡ right-side t i
-  right-read-after b q k = ap (λ (c : Bool). pick c (Of (w .right) 0 4 true) Nothing) q ∙ right-read 4 k
+  -- No sign and no star.
+  module _ (d : (s : Sign) → w .kind ≡ kind-of-sign s → ⊥) where
+    pub left-none : (w .kind ≡ Kind.star → ⊥) → Nothing ≡ left-side t i
+    left-none n = go (meaning (w .kind)) (numbered (w .kind))
+      where
+        go : (m : Meaning) → Numbered m (w .kind) → Nothing ≡ left-side t i
+        go ∅-kind h = left-as ∅-kind h
+        go ε-kind h = left-as ε-kind h
+        go letter-kind h = left-as letter-kind h
+        go (sign-kind s) h = absurd (d s h)
+        go star-kind h = absurd (n h)
+        go unknown-kind h = left-as unknown-kind h
 
-  pub right-read-none : (w .kind ≡ 3 → ⊥) → (w .kind ≡ 4 → ⊥) → (w .kind ≡ 5 → ⊥) → Nothing ≡ right-side t i
-  right-read-none a b c = sym (simp (ne-eqb (w .kind) 3 a, ne-eqb (w .kind) 4 b, ne-eqb (w .kind) 5 c)) ∙ right-read (w .kind) refl
+    pub right-none : Nothing ≡ right-side t i
+    right-none = go (meaning (w .kind)) (numbered (w .kind))
+      where
+        go : (m : Meaning) → Numbered m (w .kind) → Nothing ≡ right-side t i
+        go ∅-kind h = right-as ∅-kind h
+        go ε-kind h = right-as ε-kind h
+        go letter-kind h = right-as letter-kind h
+        go (sign-kind s) h = absurd (d s h)
+        go star-kind h = right-as star-kind h
+        go unknown-kind h = right-as unknown-kind h
+
+  pub left-child : SoundTo t i → (s : Sign) → w .kind ≡ kind-of-sign s → SoundTo t (w .left)
+  left-child k s h =
+      let r = sign-rooted s (rooted t i (k .sound i (le-refl (suc i)))) (sym (ap (λ (v : Row). v .kind) e) ∙ h) in
+      sound-to-less k (subst (λ (v : Row). v .left < i) (sym e) (r .0))
+
+  -- The right part's list follows where the left part has the empty word.
+  pub right-after : (b : Bool) → b ≡ empty-word (tree-at t (w .left)) → w .kind ≡ kind-of-sign concatenation
+      → pick b (Of (w .right) 0 Followed) Nothing ≡ right-side t i
+  right-after b q h = ap (λ (c : Bool). pick c (Of (w .right) 0 Followed) Nothing) q ∙ right-as (sign-kind concatenation) h
 
 -- ---- The lists
 
 -- A side without a join is the child's list.
-plain : {t : Table} {n : ℕ} → Rows t n → (a c : ℕ) → side-list a t (Of c 0 4 true) ≡ derivative a (tree-at t c)
+plain : {t : Table} {n : ℕ} → Rows t n → (a c : ℕ) → side-list a t (Of c 0 Followed) ≡ derivative a (tree-at t c)
 plain {t} h a c =
-    map-same (beside concatenation (tree-at t 0) true)
-    (λ m. ap (λ o. beside concatenation o true m) (h .literal) ∙ beside-literal concatenation true m) (derivative a (tree-at t c))
+    map-same (beside Followed (tree-at t 0)) (λ m. ap (λ o. beside Followed o m) (h .literal) ∙ beside-literal Followed m) (derivative a (tree-at t c))
 
 pub side-no-repeats : (a : ℕ) (t : Table) (side : Side) → NoRepeats (side-list a t side)
 side-no-repeats a t Nothing = tt
-side-no-repeats a t (Of child other kind first) =
-    map-no-repeats (beside (side-sign kind) (tree-at t other) first) (beside-tells (side-sign kind) (tree-at t other) first)
-    (derivative a (tree-at t child)) (derivative-no-repeats a (tree-at t child))
+side-no-repeats a t (Of child other join) =
+    map-no-repeats (beside join (tree-at t other)) (beside-tells join (tree-at t other)) (derivative a (tree-at t child))
+    (derivative-no-repeats a (tree-at t child))
 
-module _ {t : Table} {n : ℕ} (h : Rows t n) (a : ℕ) {i : ℕ} (m : i < n) where
-  abbrev x : Expression
-  x = tree-at t ((row t i) .left)
-
-  abbrev y : Expression
-  y = tree-at t ((row t i) .right)
-
+module _ {t : Table} {n : ℕ} (h : Rows t n) (a i : ℕ) where
+  -- The list of a row is that of these two sides.
   abbrev Lists : Side → Side → Type 0
   Lists b c = derivative a (tree-at t i) ≡ distinct same (side-list a t b ++ side-list a t c)
 
-  sign-list : (s : Sign) → (row t i) .kind ≡ kind-of-sign s → 3 ≤ (row t i) .kind → (row t i) .kind ≤ 5
-      → derivative a (tree-at t i) ≡ distinct same (gathered a (binary s x y))
-  sign-list s e low high =
-      ap (derivative a) (tree-sign t i s e (sound-left (h .sound i m) low) (sound-right (h .sound i m) low high)) ∙ derivative-gathered a (binary s x y)
-
-  by-kind : (k : ℕ) → (row t i) .kind ≡ k → (k ≡ 2 → ⊥)
-      → Lists (left-of k ((row t i) .left) ((row t i) .right) i) (right-of k ((row t i) .left) ((row t i) .right) (empty-word x))
-  unfolding derivative gathered distinct kind-of-sign
-  by-kind zero e d = ap (derivative a) (tree-∅ t i e)
-  by-kind (suc zero) e d = ap (derivative a) (tree-ε t i e)
-  by-kind (suc (suc zero)) e d = absurd (d refl)
-  by-kind (suc (suc (suc zero))) e d =
-      sign-list union e (omega arith) (omega arith) ∙ sym (ap₂ (λ b c. distinct same (b ++ c)) (plain h a ((row t i) .left)) (plain h a ((row t i) .right)))
-  by-kind (suc (suc (suc (suc zero)))) e d = sign-list concatenation e (omega arith) (omega arith) ∙ go (empty-word x)
+  -- A sign's list, by the sign.
+  sign-lists : (s : Sign) (l r : ℕ) → derivative a (tree-at t i) ≡ distinct same (gathered a (binary s (tree-at t l) (tree-at t r)))
+      → Lists (left-of (sign-kind s) l r i) (right-of (sign-kind s) l r (empty-word (tree-at t l)))
+  unfolding gathered
+  sign-lists union l r e = e ∙ sym (ap₂ (λ b c. distinct same (b ++ c)) (plain h a l) (plain h a r))
+  sign-lists concatenation l r e = e ∙ go (empty-word (tree-at t l))
     where
-      go : (b : Bool) → distinct same (map (λ z. joined concatenation z y) (derivative a x) ++ cond b (derivative a y) [])
-          ≡ distinct same (map (λ z. joined concatenation z y) (derivative a x) ++ side-list a t (pick b (Of ((row t i) .right) 0 4 true) Nothing))
-      go true = ap (λ c. distinct same (map (λ z. joined concatenation z y) (derivative a x) ++ c)) (sym (plain h a ((row t i) .right)))
+      ms : List Expression
+      ms = map (λ z. joined concatenation z (tree-at t r)) (derivative a (tree-at t l))
+
+      go : (b : Bool) → distinct same (ms ++ cond b (derivative a (tree-at t r)) []) ≡ distinct same (ms ++ side-list a t (pick b (Of r 0 Followed) Nothing))
+      go true = ap (λ c. distinct same (ms ++ c)) (sym (plain h a r))
       go false = refl
-  by-kind (suc (suc (suc (suc (suc zero))))) e d = sign-list shuffle e (omega arith) (omega arith)
-  by-kind (suc (suc (suc (suc (suc (suc zero)))))) e d =
-      let star-is = tree-star t i e (sound-left (h .sound i m) (omega arith)) in
-      ap (derivative a) star-is
-      ∙ ap (λ o. distinct same (map (λ z. joined concatenation z o) (derivative a x))) (sym star-is)
-      ∙ ap (distinct same) (sym (append-nil (map (λ z. joined concatenation z (tree-at t i)) (derivative a x))))
-  by-kind (suc (suc (suc (suc (suc (suc (suc k))))))) e d = absurd (let s = sound-kind (h .sound i m) in omega arith)
+  sign-lists shuffle l r e = e
 
-  pub derivative-sides : ((row t i) .kind ≡ 2 → ⊥) → Lists (left-side t i) (right-side t i)
-  derivative-sides d =
-      by-kind ((row t i) .kind) refl d ∙ sym (ap₂ (λ b c. distinct same (side-list a t b ++ side-list a t c)) (sym (left-read (rows-sound-to h m) refl _ refl)) (sym (right-read (rows-sound-to h m) refl _ refl)))
+  star-lists : (l : ℕ) → tree-at t i ≡ star (tree-at t l) → Lists (Of l i Followed) Nothing
+  unfolding gathered
+  star-lists l e =
+      ap (derivative a) e ∙ derivative-gathered a (star (tree-at t l))
+      ∙ ap (λ o. distinct same (map (λ z. joined concatenation z o) (derivative a (tree-at t l)))) (sym e)
+      ∙ ap (distinct same) (sym (append-nil (map (λ z. joined concatenation z (tree-at t i)) (derivative a (tree-at t l)))))
 
-  -- ---- The rows that a side names
+  by-root : Rooted t i → ((row t i) .kind ≡ Kind.letter → ⊥) → Lists (left-side t i) (right-side t i)
+  unfolding gathered distinct
+  by-root (∅-row e tr) d =
+      ap (derivative a) tr ∙ derivative-gathered a _
+      ∙ ap₂ (λ b c. distinct same (side-list a t b ++ side-list a t c)) (left-as t i (sym e) ∅-kind refl) (right-as t i (sym e) ∅-kind refl)
+  by-root (ε-row e tr) d =
+      ap (derivative a) tr ∙ derivative-gathered a _
+      ∙ ap₂ (λ b c. distinct same (side-list a t b ++ side-list a t c)) (left-as t i (sym e) ε-kind refl) (right-as t i (sym e) ε-kind refl)
+  by-root (letter-row b e tr) d = absurd (d (kind-is e))
+  by-root (sign-row s l r hl hr e tr) d =
+      sign-lists s l r (ap (derivative a) tr ∙ derivative-pair a s (tree-at t l) (tree-at t r))
+      ∙ ap₂ (λ b c. distinct same (side-list a t b ++ side-list a t c)) (left-as t i (sym e) (sign-kind s) refl) (right-as t i (sym e) (sign-kind s) refl)
+  by-root (star-row l hl e tr) d =
+      star-lists l tr
+      ∙ ap₂ (λ b c. distinct same (side-list a t b ++ side-list a t c)) (left-as t i (sym e) star-kind refl) (right-as t i (sym e) star-kind refl)
 
-  left-within : (k : ℕ) → (row t i) .kind ≡ k → Within-row n i (left-of k ((row t i) .left) ((row t i) .right) i)
-  left-within zero e = tt
-  left-within (suc zero) e = tt
-  left-within (suc (suc zero)) e = tt
-  left-within (suc (suc (suc zero))) e = (sound-left (h .sound i m) (omega arith), h .some, omega arith, omega arith)
-  left-within (suc (suc (suc (suc zero)))) e =
-      let s = h .sound i m in
-      (sound-left s (omega arith), let o = sound-right s (omega arith) (omega arith) in omega arith, omega arith, omega arith)
-  left-within (suc (suc (suc (suc (suc zero))))) e =
-      let s = h .sound i m in
-      (sound-left s (omega arith), let o = sound-right s (omega arith) (omega arith) in omega arith, omega arith, omega arith)
-  left-within (suc (suc (suc (suc (suc (suc zero)))))) e = (sound-left (h .sound i m) (omega arith), m, omega arith, omega arith)
-  left-within (suc (suc (suc (suc (suc (suc (suc k))))))) e = absurd (let s = sound-kind (h .sound i m) in omega arith)
+  pub derivative-sides : i < n → ((row t i) .kind ≡ Kind.letter → ⊥) → Lists (left-side t i) (right-side t i)
+  derivative-sides l = by-root (rooted t i (h .sound i l))
 
-  right-within : (k : ℕ) → (row t i) .kind ≡ k → (b : Bool) → Within-row n i (right-of k ((row t i) .left) ((row t i) .right) b)
-  right-within zero e b = tt
-  right-within (suc zero) e b = tt
-  right-within (suc (suc zero)) e b = tt
-  right-within (suc (suc (suc zero))) e b = (sound-right (h .sound i m) (omega arith) (omega arith), h .some, omega arith, omega arith)
-  right-within (suc (suc (suc (suc zero)))) e true = (sound-right (h .sound i m) (omega arith) (omega arith), h .some, omega arith, omega arith)
-  right-within (suc (suc (suc (suc zero)))) e false = tt
-  right-within (suc (suc (suc (suc (suc zero))))) e b =
-      let s = h .sound i m in
-      (sound-right s (omega arith) (omega arith), let o = sound-left s (omega arith) in omega arith, omega arith, omega arith)
-  right-within (suc (suc (suc (suc (suc (suc zero)))))) e b = tt
-  right-within (suc (suc (suc (suc (suc (suc (suc k))))))) e b = absurd (let s = sound-kind (h .sound i m) in omega arith)
+-- ---- The rows that a side names
+
+module _ {t : Table} {n : ℕ} (h : Rows t n) {i : ℕ} (l : i < n) where
+  left-sign : (s : Sign) (x y : ℕ) → x < i → y < i → Within-row n i (left-of (sign-kind s) x y i)
+  left-sign union x y hx hy = (hx, h .nonempty)
+  left-sign concatenation x y hx hy = (hx, le-trans hy (le-of-lt l))
+  left-sign shuffle x y hx hy = (hx, le-trans hy (le-of-lt l))
+
+  right-sign : (s : Sign) (x y : ℕ) → x < i → y < i → (b : Bool) → Within-row n i (right-of (sign-kind s) x y b)
+  right-sign union x y hx hy b = (hy, h .nonempty)
+  right-sign concatenation x y hx hy true = (hy, h .nonempty)
+  right-sign concatenation x y hx hy false = tt
+  right-sign shuffle x y hx hy b = (hy, le-trans hx (le-of-lt l))
+
+  left-within : Rooted t i → Within-row n i (left-side t i)
+  left-within (∅-row e tr) = subst (Within-row n i) (left-as t i (sym e) ∅-kind refl) tt
+  left-within (ε-row e tr) = subst (Within-row n i) (left-as t i (sym e) ε-kind refl) tt
+  left-within (letter-row a e tr) = subst (Within-row n i) (left-as t i (sym e) letter-kind refl) tt
+  left-within (sign-row s x y hx hy e tr) = subst (Within-row n i) (left-as t i (sym e) (sign-kind s) refl) (left-sign s x y hx hy)
+  left-within (star-row x hx e tr) = subst (Within-row n i) (left-as t i (sym e) star-kind refl) (hx, l)
+
+  right-within : Rooted t i → Within-row n i (right-side t i)
+  right-within (∅-row e tr) = subst (Within-row n i) (right-as t i (sym e) ∅-kind refl) tt
+  right-within (ε-row e tr) = subst (Within-row n i) (right-as t i (sym e) ε-kind refl) tt
+  right-within (letter-row a e tr) = subst (Within-row n i) (right-as t i (sym e) letter-kind refl) tt
+  right-within (sign-row s x y hx hy e tr) =
+      subst (Within-row n i) (right-as t i (sym e) (sign-kind s) refl) (right-sign s x y hx hy (empty-word (tree-at t x)))
+  right-within (star-row x hx e tr) = subst (Within-row n i) (right-as t i (sym e) star-kind refl) tt
 
   pub left-side-within : Within-row n i (left-side t i)
-  left-side-within = subst (Within-row n i) (left-read (rows-sound-to h m) refl _ refl) (left-within ((row t i) .kind) refl)
+  left-side-within = left-within (rooted t i (h .sound i l))
 
   pub right-side-within : Within-row n i (right-side t i)
-  right-side-within = subst (Within-row n i) (right-read (rows-sound-to h m) refl _ refl) (right-within ((row t i) .kind) refl (empty-word x))
+  right-side-within = right-within (rooted t i (h .sound i l))

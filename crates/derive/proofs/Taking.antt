@@ -1,175 +1,127 @@
--- Taking a tree over with all its parts: one row joined to what its children brought. Assumes nothing.
-use Prim.Native.Nat.{ℕ, zero, suc, _≤_, _<_}
-use native.Mathlib.Nat.{le-refl, lt-of-lt-of-le}
-use native.Mathlib.Decide.{ℕ-discrete}
+-- A tree taken over with all its parts: a leaf's row, and the row of a star or of a sign after what its children brought.
+use Prim.Native.Nat.{ℕ, _≤_, _<_}
+use native.Mathlib.Nat.{lt-of-lt-of-le}
 use native.Mathlib.Omega.{arith}
-use mathlib.Core.Path.{_≡_, refl, sym, ap, ap₂, _∙_, subst}
-use mathlib.Core.Logic.{_⊎_, inl, inr, ⊎-elim}
-use mathlib.Core.List.{List, _∷_, List·Memᴰ, List·Memᴰ·cases-cons, Memᴰ·cast}
-use Rattle.theory.specs.Expression.{Expression, Sign, binary, star, union, concatenation, shuffle, parts}
+use mathlib.Core.Path.{_≡_, sym, ap, ap₂, _∙_, subst}
+use mathlib.Core.Logic.{inr}
+use mathlib.Core.List.{List·Memᴰ, Memᴰ·cast}
+use Rattle.theory.specs.Kind
+use Rattle.theory.specs.Limit.{most-expressions}
+use Rattle.theory.specs.Expression.{Expression, pair, star, parts}
 use Rattle.theory.specs.Distinct.{Within}
-use Rattle.theory.specs.Table.{Table, Row, row, entry, Sound, of-∅, of-ε, of-letter, of-sign, of-star, trees, tree-at, row-tree, kind-of-sign}
-use Rattle.theory.proofs.KindOf.{sign-kinds, sound-kind, sound-left, sound-right, tree-sign, tree-star}
-use Rattle.theory.proofs.Trees.{trees-length, trees-below}
-use Rattle.theory.proofs.Bounds.Parts.{part-whole, part-left, part-right, part-inner}
+use Rattle.theory.specs.Table.{Table, Row, entry, Sound, of-sign, kind-of-sign, trees, tree-at, row-tree}
+use Rattle.theory.proofs.Pair.{pair-left, pair-right}
+use Rattle.theory.proofs.Trees.{trees-below}
+use Rattle.theory.proofs.Bounds.Parts.{part-whole, part-inner}
 use Rattle.theory.proofs.Sound.{sign-tree, star-tree, row-tree-cong}
-use Rattle.derive.specs.Rows.{Rows, Grown, Short, Interns, Takes, SoundTo}
+use Rattle.columns.specs.declared.Children.{Children}
+use Rattle.columns.specs.declared.Children.the-variants.{Nothing, One, Two}
 use Rattle.derive.specs.declared.rows.Interned.{Interned}
 use Rattle.derive.specs.declared.rows.Interned.the-variants.{At, Full}
-use Rattle.derive.proofs.Answering.{sound-read, kind-read}
-use Rattle.derive.proofs.Growing.{grown-none, grown-trans, grown-tree}
-
--- ---- Too little room
-
-pub short-more : {room : ℕ} {P Q : Expression → Type 0} → Short room P → ((z : Expression) → P z → Q z) → Short room Q
-short-more s f = record { all = s .all; once = s .once; over = s .over; each = λ z m. f z (s .each z m) }
-
--- ---- What came
-
--- Rows have come behind those of t, each of them a part of e.
-pub record Brought (t : Table) (n : ℕ) (t′ : Table) (n′ : ℕ) (e : Expression) : Type 0 where
-  pub grown : Grown t n t′ n′
-  pub each : (z : Expression) → List·Memᴰ z (trees t′ n′) → List·Memᴰ z (trees t n) ⊎ List·Memᴰ z (parts e)
-
-pub brought-none : {t : Table} {n : ℕ} (e : Expression) → Rows t n → Brought t n t n e
-brought-none e h = record { grown = grown-none h; each = λ z m. inl m }
-
-pub brought-child : {t t′ : Table} {n n′ : ℕ} {x : Expression} (e : Expression) → Brought t n t′ n′ x → Within (parts x) (parts e) → Brought t n t′ n′ e
-brought-child e b f = record { grown = b .grown; each = λ z m. ⊎-elim inl (λ p. inr (f z p)) (b .each z m) }
-
-pub brought-then : {t t′ t″ : Table} {n n′ n″ : ℕ} {e : Expression} → Brought t n t′ n′ e → Brought t′ n′ t″ n″ e → Brought t n t″ n″ e
-brought-then b d =
-    record { grown = grown-trans (b .grown) (d .grown); each = λ z m. ⊎-elim (b .each z) inr (d .each z m) }
-
--- ---- One row more
-
--- The rows of t and those that brought parts of e; then e itself is found, added, or has no room.
-pub takes-join : {t t′ : Table} {n n′ : ℕ} (room : ℕ) (e : Expression) → Brought t n t′ n′ e → (r : Interned) (t″ : Table) → Interns t′ n′ room e r t″
-    → Takes t n room e r t″
-takes-join room e b (At i n″) t″ h = (
-  grown-trans (b .grown) (h .0),
-  h .1,
-  h .2,
-  h .3,
-  λ z m. ⊎-elim (λ q. inr (Memᴰ·cast q (part-whole e))) (b .each z) (List·Memᴰ·cases-cons (h .4 z m)),
-)
-takes-join {t′ = t′} {n′ = n′} room e b Full t″ h =
-    record {
-      all = e ∷ trees t′ n′;
-      once = (h .1, b .grown .rows .once);
-      over = (let l = trees-length t′ n′ in let q = h .0 in omega arith);
-      each = λ z m. ⊎-elim (λ q. inr (Memᴰ·cast q (part-whole e))) (b .each z) (List·Memᴰ·cases-cons m);
-    }
-
--- A child has no room.
-pub takes-short : {t t′ : Table} {n n′ : ℕ} (room : ℕ) (x e : Expression) → Brought t n t′ n′ e → Within (parts x) (parts e)
-    → Short room (λ z. List·Memᴰ z (trees t′ n′) ⊎ List·Memᴰ z (parts x)) → Short room (λ z. List·Memᴰ z (trees t n) ⊎ List·Memᴰ z (parts e))
-takes-short room x e b f s = short-more s (λ z. ⊎-elim (b .each z) (λ p. inr (f z p)))
-
--- ---- Leaves
-
-pub leaf-sound : {i : ℕ} {w : Row} (j : ℕ) → Sound i w → w .kind < 3 → Sound j w
-leaf-sound j (of-∅ e) h = of-∅ e
-leaf-sound j (of-ε e) h = of-ε e
-leaf-sound j (of-letter a low high e) h = of-letter a low high e
-leaf-sound j (of-sign s l r hl hr e) h = absurd (omega (arith, ap (λ (v : Row). v .kind) e, sign-kinds s .0))
-leaf-sound j (of-star l hl e) h = absurd (omega (arith, ap (λ (v : Row). v .kind) e))
-
-pub leaf-tree : {t : Table} {i : ℕ} {w : Row} (ts : List Expression) → SoundTo t i → w ≡ row t i → w .kind < 3 → row-tree w ts ≡ tree-at t i
-unfolding tree-at
-leaf-tree {t} {i} {w} ts s e h =
-    row-tree-cong ts (trees t i) (leaf-sound zero (subst (Sound i) (sym e) (s .sound i (le-refl (suc i)))) h) (λ k l. absurd (omega arith))
-    ∙ ap (λ v. row-tree v (trees t i)) e
+use Rattle.derive.specs.Rows.{Fitted, Came, Held, Short, Interns, Takes}
+use Rattle.derive.proofs.Coming.{came-none, came-for, came-then, short-for, short-then, answered-as, answered-then}
+use Rattle.derive.proofs.Growing.{grown-tree}
+use Rattle.derive.proofs.Reading.{Read, leaf-read, star-read, sign-read}
 
 -- ---- What an answer says
 
--- A tree taken over stands at row i of the n′ rows of t′.
-pub record Took (t : Table) (n room : ℕ) (e : Expression) (i n′ : ℕ) (t′ : Table) : Type 0 where
-  pub brought : Brought t n t′ n′ e
-  pub fits : n′ ≤ room
-  pub there : i < n′
-  pub is : tree-at t′ i ≡ e
+-- The tree e is taken over as row i.
+abbrev pub Took : Table → ℕ → ℕ → Expression → ℕ → Table → ℕ → Type 0
+Took t n room e = Held t n room (λ z. List·Memᴰ z (parts e)) (λ z. z ≡ e)
 
-pub took : (t : Table) (n room : ℕ) (e : Expression) (t′ : Table) {r : Interned} {i n′ : ℕ} → r ≡ At i n′ → Takes t n room e r t′ → Took t n room e i n′ t′
-took t n room e t′ {i = i} {n′} q h =
-    let k : Takes t n room e (At i n′) t′ = subst (λ v. Takes t n room e v t′) q h in
-    record { brought = record { grown = k .0; each = k .4 }; fits = k .1; there = k .2; is = k .3 }
+pub took : {t t′ : Table} {n room : ℕ} {e : Expression} {r : Interned} {i n′ : ℕ} → r ≡ At i n′ → Takes t n room e r t′ → Took t n room e i t′ n′
+took q h = answered-as q h .answer
 
-pub took-not : (t : Table) (n room : ℕ) (e : Expression) (t′ : Table) {r : Interned} → r ≡ Full → Takes t n room e r t′
-    → Short room (λ z. List·Memᴰ z (trees t n) ⊎ List·Memᴰ z (parts e))
-took-not t n room e t′ q h = subst (λ v. Takes t n room e v t′) q h
+pub took-not : {t t′ : Table} {n room : ℕ} {e : Expression} {r : Interned} → r ≡ Full → Takes t n room e r t′
+    → Short t n room (λ z. List·Memᴰ z (parts e)) t′
+took-not q h = answered-as q h .answer
 
--- ---- The given table's rows
+-- A row number fits 16 bits.
+pub named-small : {t t′ : Table} {n room : ℕ} {e : Expression} {i n′ : ℕ} → Fitted t n room → Took t n room e i t′ n′ → i ≤ most-expressions
+named-small f k = omega (arith, k .there, k .came .fits, f .small)
 
--- Kinds 3, 4 and 5 are signs.
-sign-of : (k : ℕ) → 3 ≤ k → k ≤ 5 → (s : Sign) × (k ≡ kind-of-sign s)
-unfolding kind-of-sign
-sign-of zero h m = absurd (omega arith)
-sign-of (suc zero) h m = absurd (omega arith)
-sign-of (suc (suc zero)) h m = absurd (omega arith)
-sign-of (suc (suc (suc zero))) h m = (union, refl)
-sign-of (suc (suc (suc (suc zero)))) h m = (concatenation, refl)
-sign-of (suc (suc (suc (suc (suc zero))))) h m = (shuffle, refl)
-sign-of (suc (suc (suc (suc (suc (suc k)))))) h m = absurd (omega arith)
+-- ---- A tree after its parts
 
-pub sign-sound : (k x y v : ℕ) → 3 ≤ k → k ≤ 5 → x < v → y < v → Sound v (entry k x y)
-sign-sound k x y v h m hx hy = let s = sign-of k h m in of-sign (s .0) x y hx hy (ap (λ (j : ℕ). entry j x y) (s .1))
+module _ {t t′ : Table} {n room : ℕ} (x e : Expression) (inside : Within (parts x) (parts e)) where
+  came-part : {n′ : ℕ} → Came t n room (λ z. List·Memᴰ z (parts x)) t′ n′ → Came t n room (λ z. List·Memᴰ z (parts e)) t′ n′
+  came-part = came-for (λ z p. inr (inside z p))
 
--- w is row i of the given table, as the code has read it.
-module _ {g : Table} {i : ℕ} {w : Row} (s : SoundTo g i) (e : w ≡ row g i) where
-  at-least : 3 ≤ w .kind → 3 ≤ (row g i) .kind
-  at-least h = subst (λ (v : Row). 3 ≤ v .kind) e h
+  short-part : Short t n room (λ z. List·Memᴰ z (parts x)) t′ → Short t n room (λ z. List·Memᴰ z (parts e)) t′
+  short-part = short-for (λ z p. inr (inside z p))
 
-  read-left : tree-at g ((row g i) .left) ≡ tree-at g (w .left)
-  read-left = ap (λ (v : Row). tree-at g (v .left)) (sym e)
-
-  read-right : tree-at g ((row g i) .right) ≡ tree-at g (w .right)
-  read-right = ap (λ (v : Row). tree-at g (v .right)) (sym e)
-
-  pub starred : w .kind ≡ 6 → tree-at g i ≡ star (tree-at g (w .left))
-  starred q = tree-star g i (kind-read s e q) (sound-left (s .sound i (le-refl (suc i))) (at-least (omega arith))) ∙ ap star read-left
-
-  pub signed : (h : 3 ≤ w .kind) (n : w .kind ≡ 6 → ⊥) → (u : Sign) × (w .kind ≡ kind-of-sign u) × (tree-at g i ≡ binary u (tree-at g (w .left)) (tree-at g (w .right)))
-  signed h n =
-      let m : w .kind ≤ 5 = omega (arith, sound-kind (sound-read s e)) in
-      let u = sign-of (w .kind) h m in
-      let r = s .sound i (le-refl (suc i)) in (
-        u .0,
-        u .1,
-        tree-sign g i (u .0) (kind-read s e (u .1)) (sound-left r (at-least h)) (sound-right r (at-least h) (subst (λ (v : Row). v .kind ≤ 5) e m))
-            ∙ ap₂ (binary (u .0)) read-left read-right,
-      )
-
-  pub parts-of-left : 3 ≤ w .kind → Within (parts (tree-at g (w .left))) (parts (tree-at g i))
-  parts-of-left h = go (ℕ-discrete (w .kind) 6)
-    where
-      go : Dec (w .kind ≡ 6) → Within (parts (tree-at g (w .left))) (parts (tree-at g i))
-      go (yes q) = subst (λ x. Within (parts (tree-at g (w .left))) (parts x)) (sym (starred q)) (part-inner (tree-at g (w .left)))
-      go (no n) =
-          let u = signed h n in
-          subst (λ x. Within (parts (tree-at g (w .left))) (parts x)) (sym (u .2)) (part-left (u .0) (tree-at g (w .left)) (tree-at g (w .right)))
-
-  pub parts-of-right : 3 ≤ w .kind → (w .kind ≡ 6 → ⊥) → Within (parts (tree-at g (w .right))) (parts (tree-at g i))
-  parts-of-right h n =
-      let u = signed h n in
-      subst (λ x. Within (parts (tree-at g (w .right))) (parts x)) (sym (u .2)) (part-right (u .0) (tree-at g (w .left)) (tree-at g (w .right)))
-
-  pub star-joined : {t t′ : Table} {n room x u : ℕ} → w .kind ≡ 6 → Took t n room (tree-at g (w .left)) x u t′
-      → row-tree (entry (w .kind) x 0) (trees t′ u) ≡ tree-at g i
-  star-joined {t′ = t′} {x = x} {u} q k =
-      ap (λ (j : ℕ). row-tree (entry j x 0) (trees t′ u)) q ∙ star-tree x (trees t′ u)
-      ∙ ap star (trees-below t′ u x (k .there) ∙ k .is) ∙ sym (starred q)
-
-  pub sign-joined : {t t′ t″ : Table} {n room x u y v : ℕ} → 3 ≤ w .kind → (w .kind ≡ 6 → ⊥) → Took t n room (tree-at g (w .left)) x u t′
-      → Took t′ u room (tree-at g (w .right)) y v t″ → row-tree (entry (w .kind) x y) (trees t″ v) ≡ tree-at g i
-  sign-joined {t″ = t″} {x = x} {y = y} {v} h n k l =
-      let r = signed h n in
-      let b = lt-of-lt-of-le (k .there) (l .brought .grown .more) in
-      ap (λ (j : ℕ). row-tree (entry j x y) (trees t″ v)) (r .1) ∙ sign-tree (r .0) x y (trees t″ v)
-      ∙ ap₂ (binary (r .0)) (trees-below t″ v x b ∙ grown-tree (l .brought .grown) (k .there) ∙ k .is) (trees-below t″ v y (l .there) ∙ l .is)
-      ∙ sym (r .2)
-
--- The tree of the row that is found or added is e.
-pub takes-row : (t : Table) (n room : ℕ) (e : Expression) {t′ : Table} {n′ : ℕ} (r : Interned) (t″ : Table) {x : Expression} → Brought t n t′ n′ e → x ≡ e
+takes-after : {t t′ t″ : Table} {n n′ room : ℕ} {x e : Expression} {r : Interned} → Came t n room (λ z. List·Memᴰ z (parts e)) t′ n′ → x ≡ e
     → Interns t′ n′ room x r t″ → Takes t n room e r t″
-takes-row t n room e {t′} {n′} r t″ b q h = takes-join room e b r t″ (subst (λ y. Interns t′ n′ room y r t″) q h)
+takes-after {t′ = t′} {t″ = t″} {n′ = n′} {room = room} {e = e} {r = r} c q h =
+    answered-then c (λ z p. Memᴰ·cast p (part-whole e)) (subst (λ y. Interns t′ n′ room y r t″) q h)
+
+full-for : {t t′ : Table} {n room : ℕ} {e : Expression} {r : Interned} → r ≡ Full → Short t n room (λ z. List·Memᴰ z (parts e)) t′ → Takes t n room e r t′
+full-for q s = answered-as (sym q) (record { answer = s })
+
+-- ---- By the children of the given row
+
+module _ {g : Table} {j : ℕ} {w : Row} {named : Children} (k : Read g j w named) where
+  pub takes-leaf : {t t′ : Table} {n room : ℕ} {r : Interned} → named ≡ Nothing → Fitted t n room → Interns t n room (row-tree w (trees t n)) r t′
+      → Takes t n room (tree-at g j) r t′
+  unfolding tree-at
+  takes-leaf {t} {n = n} q f h =
+      takes-after (came-none (λ z. List·Memᴰ z (parts (tree-at g j))) f)
+      (row-tree-cong (trees t n) (trees g j) (leaf-read k q 0) (λ i l. absurd (omega arith)) ∙ ap (λ v. row-tree v (trees g j)) (k .is)) h
+
+  -- ---- A star over the child
+
+  star-parts : {c : ℕ} → named ≡ One c → Within (parts (tree-at g c)) (parts (tree-at g j))
+  star-parts {c} q = subst (λ e. Within (parts (tree-at g c)) (parts e)) (sym (star-read k q .1)) (part-inner (tree-at g c))
+
+  module _ {t t₁ : Table} {n room c : ℕ} (q : named ≡ One c) where
+    pub takes-star : {t₂ : Table} {x u : ℕ} {r : Interned} → Took t n room (tree-at g c) x t₁ u
+        → Interns t₁ u room (row-tree (entry Kind.star x 0) (trees t₁ u)) r t₂ → Takes t n room (tree-at g j) r t₂
+    takes-star {x = x} {u} d h =
+        takes-after (came-part (tree-at g c) (tree-at g j) (star-parts q) (d .came))
+        (star-tree x (trees t₁ u) ∙ ap star (trees-below t₁ u x (d .there) ∙ d .is) ∙ sym (star-read k q .1)) h
+
+    pub star-full : {r : Interned} → r ≡ Full → Takes t n room (tree-at g c) r t₁ → Takes t n room (tree-at g j) r t₁
+    star-full e h = full-for e (short-part (tree-at g c) (tree-at g j) (star-parts q) (took-not e h))
+
+  -- ---- A sign over both children
+
+  left-parts : {c d : ℕ} → named ≡ Two c d → Within (parts (tree-at g c)) (parts (tree-at g j))
+  left-parts {c} {d} q =
+      let p = sign-read k q in
+      subst (λ e. Within (parts (tree-at g c)) (parts e)) (sym (p .4)) (pair-left (p .0) (tree-at g c) (tree-at g d))
+
+  right-parts : {c d : ℕ} → named ≡ Two c d → Within (parts (tree-at g d)) (parts (tree-at g j))
+  right-parts {c} {d} q =
+      let p = sign-read k q in
+      subst (λ e. Within (parts (tree-at g d)) (parts e)) (sym (p .4)) (pair-right (p .0) (tree-at g c) (tree-at g d))
+
+  module _ {t t₁ : Table} {n room c d : ℕ} (q : named ≡ Two c d) where
+    pub left-full : {r : Interned} → r ≡ Full → Takes t n room (tree-at g c) r t₁ → Takes t n room (tree-at g j) r t₁
+    left-full e h = full-for e (short-part (tree-at g c) (tree-at g j) (left-parts q) (took-not e h))
+
+    module _ {x u : ℕ} (a : Took t n room (tree-at g c) x t₁ u) where
+      from-left : Came t n room (λ z. List·Memᴰ z (parts (tree-at g j))) t₁ u
+      from-left = came-part (tree-at g c) (tree-at g j) (left-parts q) (a .came)
+
+      pub right-full : {t₂ : Table} {r : Interned} → r ≡ Full → Takes t₁ u room (tree-at g d) r t₂ → Takes t n room (tree-at g j) r t₂
+      right-full e h =
+          full-for e (short-then from-left (short-part (tree-at g d) (tree-at g j) (right-parts q) (took-not e h)))
+
+      module _ {t₂ : Table} {y v : ℕ} {row : Row} (b : Took t₁ u room (tree-at g d) y t₂ v) (is : row ≡ entry (w .kind) x y) where
+        left-still : x < v
+        left-still = lt-of-lt-of-le (a .there) (b .came .grown .more)
+
+        row-is : row ≡ entry (kind-of-sign (sign-read k q .0)) x y
+        row-is = is ∙ ap (λ (i : ℕ). entry i x y) (sign-read k q .3)
+
+        pub pair-sound : Sound v row
+        pair-sound = of-sign (sign-read k q .0) x y left-still (b .there) row-is
+
+        pub takes-pair : {t₃ : Table} {r : Interned} → Interns t₂ v room (row-tree row (trees t₂ v)) r t₃ → Takes t n room (tree-at g j) r t₃
+        takes-pair h =
+            let p = sign-read k q in
+            takes-after (came-then from-left (came-part (tree-at g d) (tree-at g j) (right-parts q) (b .came)))
+            (ap (λ i. row-tree i (trees t₂ v)) row-is ∙ sign-tree (p .0) x y (trees t₂ v)
+            ∙ ap₂ (pair (p .0)) (trees-below t₂ v x left-still ∙ grown-tree (b .came .grown) (a .there) ∙ a .is)
+            (trees-below t₂ v y (b .there) ∙ b .is)
+            ∙ sym (p .4))
+            h

@@ -1,72 +1,98 @@
 -- The list of a derivative from its two sides: the left part's list and the right part's, each member joined with one other tree.
-use Prim.Native.Nat.{ℕ, _≤_, _<_}
-use mathlib.Core.Bool.{Bool, true, false, cond, not, _&&_}
+use Prim.Native.Nat.{ℕ, _<_}
+use mathlib.Core.Bool.{Bool, true, false, not, _&&_}
 use mathlib.Core.List.{List, [], map}
 use lib.Dec.{eqb}
-use Rattle.theory.specs.Expression.{Expression, Sign, concatenation, shuffle}
+use Rattle.theory.specs.Expression.{Expression, Sign, union, concatenation, shuffle}
 use Rattle.theory.specs.Derivative.{joined, derivative, empty-word}
-use Rattle.theory.specs.Table.{Table, row, tree-at}
+use Rattle.theory.specs.Table.{Table, Row, row, tree-at, Meaning, ∅-kind, ε-kind, letter-kind, sign-kind, star-kind, unknown-kind, meaning, kind-of-sign}
+use Rattle.derive.specs.declared.sides.Join.{Join}
+use Rattle.derive.specs.declared.sides.Join.the-variants.{Followed, Shuffled, Shuffles}
 use Rattle.derive.specs.declared.sides.Side.{Side}
 use Rattle.derive.specs.declared.sides.Side.the-variants.{Nothing, Of}
 use Rattle.derive.specs.declared.sides.Lowered.{Lowered}
 use Rattle.derive.specs.declared.sides.Lowered.the-variants.{Member, Outside}
 
--- A side joins by concatenation (kind 4) or by shuffle (kind 5).
-abbrev pub side-sign : ℕ → Sign
-side-sign k = cond (eqb k 5) shuffle concatenation
+-- ---- Joins
 
--- A member m joined with the other tree o, before it or behind it. With o the literal empty word it stays as it is.
-abbrev pub beside : Sign → Expression → Bool → Expression → Expression
-beside s o true m = joined s m o
-beside s o false m = joined s o m
+abbrev pub join-sign : Join → Sign
+join-sign Followed = concatenation
+join-sign Shuffled = shuffle
+join-sign Shuffles = shuffle
+
+-- f of a member m and the other o, in the order of the join.
+abbrev pub arranged : {A B : Type 0} → Join → (A → A → B) → A → A → B
+arranged Followed f m o = f m o
+arranged Shuffled f m o = f m o
+arranged Shuffles f m o = f o m
+
+-- A member m joined with the other tree o. With o the literal empty word it stays as it is.
+abbrev pub beside : Join → Expression → Expression → Expression
+beside j o m = arranged j (joined (join-sign j)) m o
+
+-- ---- Sides
 
 -- The members of a side, in list order.
 abbrev pub side-list : ℕ → Table → Side → List Expression
 side-list a t Nothing = []
-side-list a t (Of child other kind first) = map (beside (side-sign kind) (tree-at t other) first) (derivative a (tree-at t child))
+side-list a t (Of child other join) = map (beside join (tree-at t other)) (derivative a (tree-at t child))
 
--- A side of row i of n: its child comes before row i, its other tree is a row, its kind is that of a joining sign.
+-- A side of row i of n: its child comes before row i, and its other tree is a row.
 abbrev pub Within-row : ℕ → ℕ → Side → Type 0
 Within-row n i Nothing = Unit {0}
-Within-row n i (Of child other kind first) = (child < i) × (other < n) × (4 ≤ kind) × (kind ≤ 5)
+Within-row n i (Of child other join) = (child < i) × (other < n)
 
--- The two sides of row i. 01: "union: the left's list, then the right's"; concatenation xy: "each member of x's list followed by y;
--- then, if x contains the empty word, y's list"; star: "each member of the inner list followed by the star"; shuffle: "each member of
--- x's list shuffled with y; then x shuffled with each member of y's list".
+-- The two sides of row i, which is (k, l, r). 01: "union: the left's list, then the right's"; concatenation xy: "each member of x's list
+-- followed by y; then, if x contains the empty word, y's list"; star: "each member of the inner list followed by the star"; shuffle: "each
+-- member of x's list shuffled with y; then x shuffled with each member of y's list".
+abbrev pub left-of : Meaning → ℕ → ℕ → ℕ → Side
+left-of ∅-kind l r i = Nothing
+left-of ε-kind l r i = Nothing
+left-of letter-kind l r i = Nothing
+left-of (sign-kind union) l r i = Of l 0 Followed
+left-of (sign-kind concatenation) l r i = Of l r Followed
+left-of (sign-kind shuffle) l r i = Of l r Shuffled
+left-of star-kind l r i = Of l i Followed
+left-of unknown-kind l r i = Nothing
+
 abbrev pub pick : Bool → Side → Side → Side
 pick true a b = a
 pick false a b = b
 
+-- `e` is whether the left part has the empty word.
+abbrev pub right-of : Meaning → ℕ → ℕ → Bool → Side
+right-of ∅-kind l r e = Nothing
+right-of ε-kind l r e = Nothing
+right-of letter-kind l r e = Nothing
+right-of (sign-kind union) l r e = Of r 0 Followed
+right-of (sign-kind concatenation) l r e = pick e (Of r 0 Followed) Nothing
+right-of (sign-kind shuffle) l r e = Of r l Shuffles
+right-of star-kind l r e = Nothing
+right-of unknown-kind l r e = Nothing
+
 unfoldable pub left-side : Table → ℕ → Side
-left-side t i =
-    let l = (row t i) .left in
-    let r = (row t i) .right in
-    let k = (row t i) .kind in
-    pick (eqb k 3) (Of l 0 4 true)
-    (pick (eqb k 4) (Of l r 4 true)
-    (pick (eqb k 5) (Of l r 5 true)
-    (pick (eqb k 6) (Of l i 4 true) Nothing)))
+unfolding meaning
+left-side t i = let w = row t i in left-of (meaning (w .kind)) (w .left) (w .right) i
 
 unfoldable pub right-side : Table → ℕ → Side
-unfolding empty-word tree-at
-right-side t i =
-    let l = (row t i) .left in
-    let r = (row t i) .right in
-    let k = (row t i) .kind in
-    pick (eqb k 3) (Of r 0 4 true)
-    (pick (eqb k 4) (pick (empty-word (tree-at t l)) (Of r 0 4 true) Nothing)
-    (pick (eqb k 5) (Of r l 5 false) Nothing))
+unfolding meaning empty-word tree-at
+right-side t i = let w = row t i in right-of (meaning (w .kind)) (w .left) (w .right) (empty-word (tree-at t (w .left)))
 
--- The member whose join with `other` is row p's tree, as a row.
+-- ---- The join undone
+
 abbrev pub choose : Bool → Lowered → Lowered → Lowered
 choose true a b = a
 choose false a b = b
 
-unfoldable pub lowered : Table → ℕ → ℕ → Bool → ℕ → Lowered
-lowered t other kind first p =
-    let w = row t p in
-    let m = cond first (w .left) (w .right) in
-    let o = cond first (w .right) (w .left) in
-    choose (eqb other 0) (Member p)
-    (choose (eqb p other) (Member 0)
-    (choose (eqb (w .kind) kind && eqb o other && not (eqb m 0)) (Member m) Outside))
+-- The member of a pair whose other tree is row `other`. A join with the literal empty word is never made.
+unfoldable pub parted : Row → Join → ℕ → Lowered
+unfolding kind-of-sign
+parted w j other =
+    let m = arranged j (λ x y. x) (w .left) (w .right) in
+    let o = arranged j (λ x y. y) (w .left) (w .right) in
+    choose (eqb (w .kind) (kind-of-sign (join-sign j)) && eqb o other && not (eqb m 0)) (Member m) Outside
+
+-- The member whose join with row `other` is row p's tree, as a row.
+unfoldable pub lowered : Table → ℕ → Join → ℕ → Lowered
+unfolding parted
+lowered t other j p = choose (eqb other 0) (Member p) (choose (eqb p other) (Member 0) (parted (row t p) j other))

@@ -1,14 +1,16 @@
--- One step along the list of a derivative that is stored nowhere: the member behind a given one, or the first.
-use Prim.Native.Nat.{ℕ, _≤_, _<_}
+-- One step along the list of a derivative that is stored nowhere: the member after a given one, or the first.
+use Prim.Native.Nat.{ℕ, _<_}
 use mathlib.Core.Path.{_≡_}
-use mathlib.Core.Bool.{Bool}
+use mathlib.Core.Bool.{Bool, true, false}
 use mathlib.Core.Option.{Option, none, some}
 use mathlib.Core.List.{List, [], _∷_, List·Memᴰ}
-use lib.ListN.{length}
-use Rattle.theory.specs.Expression.{Expression, same}
+use Rattle.theory.specs.Expression.{Expression, same, parts}
 use Rattle.theory.specs.Distinct.{beyond}
 use Rattle.theory.specs.Derivative.{derivative}
-use Rattle.theory.specs.Table.{Table, trees, tree-at}
+use Rattle.theory.specs.Table.{Table, tree-at}
+use Rattle.derive.specs.declared.rows.Interned.{Interned}
+use Rattle.derive.specs.declared.rows.Interned.the-variants.{At, Full}
+use Rattle.derive.specs.declared.sides.Join.{Join}
 use Rattle.derive.specs.declared.sides.Side.{Side}
 use Rattle.derive.specs.declared.sides.Lowered.{Lowered}
 use Rattle.derive.specs.declared.sides.Lowered.the-variants.{Member, Outside}
@@ -16,15 +18,20 @@ use Rattle.derive.specs.declared.walk.Place.{Place}
 use Rattle.derive.specs.declared.walk.Place.the-variants.{Start, Behind}
 use Rattle.derive.specs.declared.walk.Stepped.{Stepped}
 use Rattle.derive.specs.declared.walk.Stepped.the-variants.{Found, End, NoRoom}
-use Rattle.derive.specs.Rows.{Rows, Tells, Grown, Needed, Short}
+use Rattle.derive.specs.Rows.{Rows, SoundTo, Came, Held, Short}
 use Rattle.derive.specs.Sides.{side-list, lowered, Within-row}
+
+-- A test says whether P holds.
+abbrev pub Tells : Bool → Type 0 → Type 0
+Tells true P = P
+Tells false P = P → ⊥
 
 -- xs where the question is answered yes, else ys
 abbrev pub if-yes : {A P : Type 0} → Dec P → A → A → A
 if-yes (yes p) x y = x
 if-yes (no n) x y = y
 
--- What stands behind p in a list; nothing where p does not stand there.
+-- What stands after p in a list; nothing where p does not stand there.
 unfoldable pub behind : Expression → List Expression → List Expression
 behind p [] = []
 behind p (x ∷ xs) = let r = behind p xs in if-yes (same p x) xs r
@@ -32,6 +39,8 @@ behind p (x ∷ xs) = let r = behind p xs in if-yes (same p x) xs r
 abbrev pub first-of : List Expression → Option Expression
 first-of [] = none
 first-of (x ∷ xs) = some x
+
+-- ---- Places
 
 -- The members still to come.
 abbrev pub to-come : Table → Place → List Expression → List Expression
@@ -53,34 +62,26 @@ abbrev pub behind-lowered : Lowered → Place
 behind-lowered (Member m) = Behind m
 behind-lowered Outside = Start
 
-abbrev pub lowered-place : Table → ℕ → ℕ → Bool → Place → Place
-lowered-place t other kind first Start = Start
-lowered-place t other kind first (Behind p) = behind-lowered (lowered t other kind first p)
+abbrev pub lowered-place : Table → ℕ → Join → Place → Place
+lowered-place t other join Start = Start
+lowered-place t other join (Behind p) = behind-lowered (lowered t other join p)
 
--- Rows of a table that holds each tree once: a row and a member; a side's rows and a member; a side's rows and a place.
-abbrev pub Row-among : Table → ℕ → ℕ → Type 0
-Row-among t i m = (n : ℕ) × Rows t n × (i < n) × (m < n)
+-- ---- A step
 
-abbrev pub Side-among : Table → Side → ℕ → Type 0
-Side-among t side m = (n : ℕ) × Rows t n × Within-row n n side × (m < n)
+-- A tree that the walk of the list ms may need: a part of one of its members.
+abbrev pub Part-of : List Expression → Expression → Type 0
+Part-of ms z = (m : Expression) × List·Memᴰ m ms × List·Memᴰ z (parts m)
 
-abbrev pub Place-among : Table → Side → Place → Type 0
-Place-among t side Start = Unit {0}
-Place-among t side (Behind p) = Side-among t side p
+-- The list is at its end.
+pub record Ended (t : Table) (n room : ℕ) (ms xs : List Expression) (t′ : Table) (n′ : ℕ) : Type 0 where
+  pub came : Came t n room (Part-of ms) t′ n′
+  pub nothing-left : first-of xs ≡ none
 
--- The row of a place stands in the columns.
-abbrev pub Place-within : Table → Place → Type 0
-Place-within t Start = Unit {0}
-Place-within t (Behind p) = (p < length (t .kind)) × (p < length (t .left)) × (p < length (t .right))
-
--- What a step gives where xs are the members to come of the list ms: the first of xs, as a row, or the end. Rows that came are parts of
--- members of ms.
+-- What a step gives where xs are the members to come of the list ms: the first of xs, as a row, or the end.
 abbrev pub Outcome : Table → ℕ → ℕ → List Expression → List Expression → Stepped → Table → Type 0
-Outcome t n room ms xs (Found i n′) t′ =
-    Grown t n t′ n′ × (n′ ≤ room) × (i < n′) × (first-of xs ≡ some (tree-at t′ i)) × ((z : Expression) → List·Memᴰ z (trees t′ n′) → Needed t n ms z)
-Outcome t n room ms xs (End n′) t′ =
-    Grown t n t′ n′ × (n′ ≤ room) × (first-of xs ≡ none) × ((z : Expression) → List·Memᴰ z (trees t′ n′) → Needed t n ms z)
-Outcome t n room ms xs NoRoom t′ = Short room (Needed t n ms)
+Outcome t n room ms xs (Found i n′) t′ = Held t n room (Part-of ms) (λ z. first-of xs ≡ some z) i t′ n′
+Outcome t n room ms xs (End n′) t′ = Ended t n room ms xs t′ n′
+Outcome t n room ms xs NoRoom t′ = Short t n room (Part-of ms) t′
 
 pub record Gives (t : Table) (n room : ℕ) (ms xs : List Expression) (r : Stepped) (t′ : Table) : Type 0 where
   pub outcome : Outcome t n room ms xs r t′
@@ -89,7 +90,40 @@ pub record Gives (t : Table) (n room : ℕ) (ms xs : List Expression) (r : Stepp
 abbrev pub Steps : Table → ℕ → ℕ → List Expression → Place → Stepped → Table → Type 0
 Steps t n room ms p = Gives t n room ms (to-come t p ms)
 
+-- A step along a letter's list: the literal empty word, row 0, where the letter is the one asked for, and then the end.
+abbrev pub letter-step : Bool → Place → ℕ → Stepped
+letter-step true Start used = Found 0 used
+letter-step true (Behind p) used = End used
+letter-step false p used = End used
+
+-- The step of a member that was found or added.
+abbrev pub reached : Interned → Stepped
+reached (At row used) = Found row used
+reached Full = NoRoom
+
 -- ---- The same over the rows of a table
+
+-- Rows of a table that holds each tree once: a row and a member; a side's rows and a member; a side's rows and a place.
+pub record Row-among (t : Table) (i m : ℕ) : Type 0 where
+  pub count : ℕ
+  pub rows : Rows t count
+  pub row-in : i < count
+  pub member-in : m < count
+
+pub record Side-among (t : Table) (side : Side) (m : ℕ) : Type 0 where
+  pub count : ℕ
+  pub rows : Rows t count
+  pub side-in : Within-row count count side
+  pub member-in : m < count
+
+abbrev pub Place-among : Table → Side → Place → Type 0
+Place-among t side Start = Unit {0}
+Place-among t side (Behind p) = Side-among t side p
+
+-- The row of a place stands in the columns.
+abbrev pub Place-within : Table → Place → Type 0
+Place-within t Start = Unit {0}
+Place-within t (Behind p) = SoundTo t p
 
 -- Whether row m's tree is a member of row i's list, or of a side's.
 abbrev pub Row-has : Table → ℕ → ℕ → ℕ → Bool → Type 0

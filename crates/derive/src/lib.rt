@@ -1,5 +1,6 @@
 // The partial derivatives of expressions in lent columns: rows are found or added, and a derivative's list is walked, never stored.
 
+mod intern;
 pub mod rows;
-pub mod sides;
+mod sides;
 pub mod walk;

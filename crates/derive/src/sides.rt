@@ -1,22 +1,34 @@
 // The two sides of a row's derivative, the join of a member with the side's other tree, and that join undone.
 
+use super::intern::intern;
+use super::intern::pair;
+use super::rows::Interned;
+use columns::Row;
+use theory::kind;
 ghost use mathlib.Core.Path.{_≡_};
 ghost use Prim.Native.Nat.{_≤_, _<_};
 ghost use mathlib.Core.Bool.{not, _&&_};
 ghost use lib.Dec.{eqb};
-ghost use lib.ListN.{length};
-ghost use Rattle.theory.specs.Table.{table, tree-at};
-ghost use Rattle.derive.specs.Rows.{Rows, SoundTo, Interns};
-ghost use Rattle.derive.specs.Sides.{left-side, right-side, choose, lowered, side-sign, beside};
+ghost use Rattle.theory.specs.Limit.{most-expressions};
+ghost use Rattle.theory.specs.Table.{table, tree-at, entry, kind-of-sign};
+ghost use Rattle.columns.specs.Row.{as-row};
+ghost use Rattle.derive.specs.Rows.{Fitted, SoundTo, Interns};
+ghost use Rattle.derive.specs.Sides.{join-sign, arranged, beside, left-side, right-side, choose, parted, lowered};
 
-// The members of `child`, each joined with `other` by a sign of kind 4 or 5; `first`: the member stands first.
+// A member followed by the other tree, shuffled with it, or with the other shuffled with the member.
+pub enum Join {
+    Followed,
+    Shuffled,
+    Shuffles,
+}
+
+// The members of `child`, each joined with `other`.
 pub enum Side {
     Nothing,
     Of {
         child: usize,
         other: usize,
-        kind: u8,
-        first: bool,
+        join: Join,
     },
 }
 
@@ -33,31 +45,29 @@ pub fn left_side(kind: &[u8], left: &[u16], right: &[u16], row: usize) -> Side
     let k = w.kind;
     let child = w.left as usize;
     let other = w.right as usize;
-    if k == 3 {
-        return Side::Of {
+    match k {
+        kind::UNION => Side::Of {
             child,
             other: 0,
-            kind: 4,
-            first: true,
-        };
-    }
-    if k == 4 || k == 5 {
-        return Side::Of {
+            join: Join::Followed,
+        },
+        kind::CONCATENATION => Side::Of {
             child,
             other,
-            kind: k,
-            first: true,
-        };
-    }
-    if k == 6 {
-        return Side::Of {
+            join: Join::Followed,
+        },
+        kind::SHUFFLE => Side::Of {
+            child,
+            other,
+            join: Join::Shuffled,
+        },
+        kind::STAR => Side::Of {
             child,
             other: row,
-            kind: 4,
-            first: true,
-        };
+            join: Join::Followed,
+        },
+        _ => Side::Nothing,
     }
-    Side::Nothing
 }
 
 pub fn right_side(kind: &[u8], left: &[u16], right: &[u16], row: usize) -> Side
@@ -68,31 +78,42 @@ pub fn right_side(kind: &[u8], left: &[u16], right: &[u16], row: usize) -> Side
     let k = w.kind;
     let x = w.left as usize;
     let y = w.right as usize;
-    if k == 5 {
-        return Side::Of {
+    match k {
+        kind::UNION => Side::Of {
+            child: y,
+            other: 0,
+            join: Join::Followed,
+        },
+        kind::CONCATENATION => {
+            if super::rows::empty_word(kind, left, right, x) {
+                Side::Of {
+                    child: y,
+                    other: 0,
+                    join: Join::Followed,
+                }
+            } else {
+                Side::Nothing
+            }
+        }
+        kind::SHUFFLE => Side::Of {
             child: y,
             other: x,
-            kind: 5,
-            first: false,
-        };
+            join: Join::Shuffles,
+        },
+        _ => Side::Nothing,
     }
-    if k == 3 {
-        return Side::Of {
-            child: y,
-            other: 0,
-            kind: 4,
-            first: true,
-        };
+}
+
+// The row of the join where neither tree is the literal empty word.
+fn joined(join: Join, other: usize, member: usize) -> Row
+    requires { ⌜ (other ≤ most-expressions) × (member ≤ most-expressions) ⌝ }
+    ensures { λ r. ⌜ as-row r ≡ arranged join (entry (kind-of-sign (join-sign join))) member other ⌝ }
+{
+    match join {
+        Join::Followed => pair(kind::CONCATENATION, member, other),
+        Join::Shuffled => pair(kind::SHUFFLE, member, other),
+        Join::Shuffles => pair(kind::SHUFFLE, other, member),
     }
-    if k == 4 && super::rows::empty_word(kind, left, right, x) {
-        return Side::Of {
-            child: y,
-            other: 0,
-            kind: 4,
-            first: true,
-        };
-    }
-    Side::Nothing
 }
 
 // The row of a member joined with `other`.
@@ -103,45 +124,49 @@ pub fn lift(
     used: usize,
     room: usize,
     other: usize,
-    sign: u8,
-    first: bool,
+    join: Join,
     member: usize,
-) -> super::rows::Interned
-    requires { ⌜ Rows (table (now kind) (now left) (now right)) used ⌝ }
-    requires { ⌜ (used ≤ room) × (room ≤ length (now kind)) × (room ≤ 65535) ⌝ }
-    requires { ⌜ (other < used) × (member < used) × (4 ≤ sign) × (sign ≤ 5) ⌝ }
+) -> Interned
+    requires { ⌜ Fitted (table (now kind) (now left) (now right)) used room ⌝ }
+    requires { ⌜ (other < used) × (member < used) ⌝ }
     ensures { λ i.
         ⌜ Interns (table (now (kind .entry)) (now (left .entry)) (now (right .entry))) used room
-        (beside (side-sign sign) (tree-at (table (now (kind .entry)) (now (left .entry)) (now (right .entry))) other) first
+        (beside join (tree-at (table (now (kind .entry)) (now (left .entry)) (now (right .entry))) other)
         (tree-at (table (now (kind .entry)) (now (left .entry)) (now (right .entry))) member)) i
         (table (now (kind .exit)) (now (left .exit)) (now (right .exit))) ⌝ }
 {
     if other == 0 {
-        return super::rows::Interned::At { row: member, used };
+        return Interned::At { row: member, used };
     }
     if member == 0 {
-        return super::rows::Interned::At { row: other, used };
+        return Interned::At { row: other, used };
     }
-    let m = member as u16;
-    let o = other as u16;
-    if first {
-        return super::rows::intern(kind, left, right, used, room, sign, m, o);
-    }
-    super::rows::intern(kind, left, right, used, room, sign, o, m)
+    intern(kind, left, right, used, room, joined(join, other, member))
 }
 
 // The member of a pair, as a row, where the tree beside it is `other`. A join with the literal empty word is never made, though the
 // given expression may hold one.
-fn kept(row: usize, o: usize, other: usize) -> Lowered
-    ensures { λ r. ⌜ r ≡ choose (eqb o other && not (eqb row 0)) (Lowered.Member row) Lowered.Outside ⌝ }
+fn kept(signed: bool, member: usize, o: usize, other: usize) -> Lowered
+    ensures { λ r. ⌜ r ≡ choose (signed && eqb o other && not (eqb member 0)) (Lowered.Member member) Lowered.Outside ⌝ }
 {
-    if o != other {
-        return Lowered::Outside;
+    if signed & (o == other) & (member != 0) {
+        Lowered::Member { row: member }
+    } else {
+        Lowered::Outside
     }
-    if row == 0 {
-        return Lowered::Outside;
+}
+
+// The member of the row w, where w is a join with `other`.
+fn parted(w: Row, join: Join, other: usize) -> Lowered
+    ensures { λ r. ⌜ r ≡ parted (as-row w) join other ⌝ }
+{
+    let x = w.left as usize;
+    let y = w.right as usize;
+    match join {
+        Join::Followed => kept(w.kind == kind::CONCATENATION, x, y, other),
+        Join::Shuffled => kept(w.kind == kind::SHUFFLE, x, y, other),
+        Join::Shuffles => kept(w.kind == kind::SHUFFLE, y, x, other),
     }
-    Lowered::Member { row }
 }
 
 // The member whose join with `other` is the row p.
@@ -150,12 +175,11 @@ pub fn lower(
     left: &[u16],
     right: &[u16],
     other: usize,
-    sign: u8,
-    first: bool,
+    join: Join,
     p: usize,
 ) -> Lowered
-    requires { ⌜ (p < length (now kind)) × (p < length (now left)) × (p < length (now right)) ⌝ }
-    ensures { λ r. ⌜ r ≡ lowered (table (now (kind .entry)) (now (left .entry)) (now (right .entry))) other sign first p ⌝ }
+    requires { ⌜ SoundTo (table (now kind) (now left) (now right)) p ⌝ }
+    ensures { λ r. ⌜ r ≡ lowered (table (now (kind .entry)) (now (left .entry)) (now (right .entry))) other join p ⌝ }
 {
     if other == 0 {
         return Lowered::Member { row: p };
@@ -163,14 +187,5 @@ pub fn lower(
     if p == other {
         return Lowered::Member { row: 0 };
     }
-    let w = columns::row_at(kind, left, right, p);
-    let l = w.left as usize;
-    let r = w.right as usize;
-    if w.kind != sign {
-        return Lowered::Outside;
-    }
-    if first {
-        return kept(l, r, other);
-    }
-    kept(r, l, other)
+    parted(columns::row_at(kind, left, right, p), join, other)
 }

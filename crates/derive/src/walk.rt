@@ -1,16 +1,17 @@
-// The walk along a derivative's list: whether a tree is a member, and the member behind a given one.
+// The walk along a derivative's list: whether a tree is a member, and the member after a given one.
 
-ghost use mathlib.Core.Path.{_≡_};
-ghost use Prim.Native.Nat.{_≤_, _<_};
-ghost use lib.ListN.{length};
-ghost use Rattle.theory.specs.Table.{table};
-ghost use Rattle.derive.specs.Rows.{Rows};
-ghost use Rattle.derive.specs.Sides.{Within-row};
-ghost use Rattle.derive.specs.Walk.{Row-among, Side-among, Place-among, Place-within, lowered-place};
-ghost use Rattle.derive.specs.Walk.{Row-has, Side-has, Side-stands, Row-place, Side-place, Row-steps, Side-steps, Fresh-steps};
 use super::rows::Interned;
+use super::sides::Join;
 use super::sides::Lowered;
 use super::sides::Side;
+use theory::kind;
+ghost use mathlib.Core.Path.{_≡_};
+ghost use Prim.Native.Nat.{_<_};
+ghost use Rattle.theory.specs.Table.{table};
+ghost use Rattle.derive.specs.Rows.{Fitted};
+ghost use Rattle.derive.specs.Sides.{Within-row};
+ghost use Rattle.derive.specs.Walk.{Row-among, Side-among, Place-among, Place-within, lowered-place, letter-step, reached};
+ghost use Rattle.derive.specs.Walk.{Row-has, Side-has, Side-stands, Row-place, Side-place, Row-steps, Side-steps, Fresh-steps};
 
 // Where a walk stands: before the list, or at one of its members.
 pub enum Place {
@@ -26,13 +27,13 @@ pub enum Stepped {
 
 // Whether the row `member` is in the list of `row` by the letter: a letter's list is the literal empty word, any other row's is what its
 // two sides have.
-pub fn has(kind: &[u8], left: &[u16], right: &[u16], letter: u8, row: usize, member: usize) -> bool
+fn has(kind: &[u8], left: &[u16], right: &[u16], letter: u8, row: usize, member: usize) -> bool
     requires { ⌜ Row-among (table (now kind) (now left) (now right)) row member ⌝ }
     ensures { λ r. ⌜ Row-has (table (now (kind .entry)) (now (left .entry)) (now (right .entry))) letter row member r ⌝ }
 {
     let w = columns::row_at(kind, left, right, row);
-    if w.kind == 2 {
-        return w.left == letter as u16 && member == 0;
+    if w.kind == kind::LETTER {
+        return (w.left == letter as u16) & (member == 0);
     }
     let a = super::sides::left_side(kind, left, right, row);
     if side_has(kind, left, right, letter, a, member) {
@@ -47,17 +48,10 @@ fn side_has(kind: &[u8], left: &[u16], right: &[u16], letter: u8, side: Side, me
     requires { ⌜ Side-among (table (now kind) (now left) (now right)) side member ⌝ }
     ensures { λ r. ⌜ Side-has (table (now (kind .entry)) (now (left .entry)) (now (right .entry))) letter side member r ⌝ }
 {
-    let Side::Of {
-        child,
-        other,
-        kind: sign,
-        first,
-    } = side
-    else {
+    let Side::Of { child, other, join } = side else {
         return false;
     };
-    let Lowered::Member { row } = super::sides::lower(kind, left, right, other, sign, first, member)
-    else {
+    let Lowered::Member { row } = super::sides::lower(kind, left, right, other, join, member) else {
         return false;
     };
     has(kind, left, right, letter, child, row)
@@ -74,22 +68,15 @@ pub fn step(
     row: usize,
     place: Place,
 ) -> Stepped
-    requires { ⌜ Rows (table (now kind) (now left) (now right)) used ⌝ }
-    requires { ⌜ (used ≤ room) × (room ≤ length (now kind)) × (room ≤ 65535) × (row < used) ⌝ }
-    requires { ⌜ Row-place (table (now kind) (now left) (now right)) used letter row place ⌝ }
+    requires { ⌜ Fitted (table (now kind) (now left) (now right)) used room ⌝ }
+    requires { ⌜ (row < used) × Row-place (table (now kind) (now left) (now right)) used letter row place ⌝ }
     ensures { λ r.
         ⌜ Row-steps (table (now (kind .entry)) (now (left .entry)) (now (right .entry))) used room letter row place r
         (table (now (kind .exit)) (now (left .exit)) (now (right .exit))) ⌝ }
 {
     let w = columns::row_at(kind, left, right, row);
-    if w.kind == 2 {
-        let Place::Start = place else {
-            return Stepped::End { used };
-        };
-        if w.left == letter as u16 {
-            return Stepped::Found { row: 0, used };
-        }
-        return Stepped::End { used };
+    if w.kind == kind::LETTER {
+        return letter_step(w.left == letter as u16, place, used);
     }
     let a = super::sides::left_side(kind, left, right, row);
     let b = super::sides::right_side(kind, left, right, row);
@@ -111,6 +98,18 @@ pub fn step(
     } else {
         fresh_step(kind, left, right, used, room, letter, a, b, place)
     }
+}
+
+// A letter's list is the literal empty word where the letter is the one asked for, and else it is empty.
+fn letter_step(met: bool, place: Place, used: usize) -> Stepped
+    ensures { λ r. ⌜ r ≡ letter-step met place used ⌝ }
+{
+    if met {
+        if let Place::Start = place {
+            return Stepped::Found { row: 0, used };
+        }
+    }
+    Stepped::End { used }
 }
 
 // The start of the list and each member of the left side are walked there.
@@ -135,31 +134,37 @@ fn side_step(
     side: Side,
     place: Place,
 ) -> Stepped
-    requires { ⌜ Rows (table (now kind) (now left) (now right)) used ⌝ }
-    requires { ⌜ (used ≤ room) × (room ≤ length (now kind)) × (room ≤ 65535) × Within-row used used side ⌝ }
-    requires { ⌜ Side-place (table (now kind) (now left) (now right)) used letter side place ⌝ }
+    requires { ⌜ Fitted (table (now kind) (now left) (now right)) used room ⌝ }
+    requires { ⌜ Within-row used used side × Side-place (table (now kind) (now left) (now right)) used letter side place ⌝ }
     ensures { λ r.
         ⌜ Side-steps (table (now (kind .entry)) (now (left .entry)) (now (right .entry))) used room letter side place r
         (table (now (kind .exit)) (now (left .exit)) (now (right .exit))) ⌝ }
 {
-    let Side::Of {
-        child,
-        other,
-        kind: sign,
-        first,
-    } = side
-    else {
+    let Side::Of { child, other, join } = side else {
         return Stepped::End { used };
     };
-    let inner = lower_place(kind, left, right, other, sign, first, place);
+    let inner = lower_place(kind, left, right, other, join, place);
     match step(kind, left, right, used, room, letter, child, inner) {
-        Stepped::Found { row, used: u } => {
-            match super::sides::lift(kind, left, right, u, room, other, sign, first, row) {
-                Interned::At { row: r, used: v } => Stepped::Found { row: r, used: v },
-                Interned::Full => Stepped::NoRoom,
-            }
-        }
+        Stepped::Found { row, used: u } => reached(super::sides::lift(
+            kind,
+            left,
+            right,
+            u,
+            room,
+            other,
+            join,
+            row,
+        )),
         ended => ended,
+    }
+}
+
+fn reached(interned: Interned) -> Stepped
+    ensures { λ r. ⌜ r ≡ reached interned ⌝ }
+{
+    match interned {
+        Interned::At { row, used } => Stepped::Found { row, used },
+        Interned::Full => Stepped::NoRoom,
     }
 }
 
@@ -169,18 +174,16 @@ fn lower_place(
     left: &[u16],
     right: &[u16],
     other: usize,
-    sign: u8,
-    first: bool,
+    join: Join,
     place: Place,
 ) -> Place
     requires { ⌜ Place-within (table (now kind) (now left) (now right)) place ⌝ }
-    ensures { λ r. ⌜ r ≡ lowered-place (table (now (kind .entry)) (now (left .entry)) (now (right .entry))) other sign first place ⌝ }
+    ensures { λ r. ⌜ r ≡ lowered-place (table (now (kind .entry)) (now (left .entry)) (now (right .entry))) other join place ⌝ }
 {
     let Place::Behind { row } = place else {
         return Place::Start;
     };
-    let Lowered::Member { row: m } = super::sides::lower(kind, left, right, other, sign, first, row)
-    else {
+    let Lowered::Member { row: m } = super::sides::lower(kind, left, right, other, join, row) else {
         return Place::Start;
     };
     Place::Behind { row: m }
@@ -198,8 +201,8 @@ fn fresh_step(
     b: Side,
     place: Place,
 ) -> Stepped
-    requires { ⌜ Rows (table (now kind) (now left) (now right)) used ⌝ }
-    requires { ⌜ (used ≤ room) × (room ≤ length (now kind)) × (room ≤ 65535) × Within-row used used a × Within-row used used b ⌝ }
+    requires { ⌜ Fitted (table (now kind) (now left) (now right)) used room ⌝ }
+    requires { ⌜ Within-row used used a × Within-row used used b ⌝ }
     requires { ⌜ Side-place (table (now kind) (now left) (now right)) used letter b place ⌝ }
     ensures { λ r.
         ⌜ Fresh-steps (table (now (kind .entry)) (now (left .entry)) (now (right .entry))) used room letter a b place r

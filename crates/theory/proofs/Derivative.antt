@@ -51,6 +51,10 @@ pub derivative-gathered : (a : ℕ) (e : Expression) → derivative a e ≡ dist
 unfolding derivative
 derivative-gathered a e = alike-gathered a e .once
 
+pub derivative-pair : (a : ℕ) (s : Sign) (x y : Expression) → derivative a (pair s x y) ≡ distinct same (gathered a (binary s x y))
+unfolding pair
+derivative-pair a s x y = derivative-gathered a (binary s x y)
+
 pub derivative-no-repeats : (a : ℕ) (e : Expression) → NoRepeats (derivative a e)
 unfolding derivative
 derivative-no-repeats a e = distinct-no-repeats same (listed a e)

@@ -6,6 +6,7 @@ pub mod Distinct
 pub mod Repeats
 pub mod Members
 pub mod Language
+pub mod Pair
 pub mod Derivative
 pub mod Support
 pub mod States

@@ -46,6 +46,13 @@ sign-meaning union = refl
 sign-meaning concatenation = refl
 sign-meaning shuffle = refl
 
+-- A kind that is none of the signs'.
+pub no-sign : (k : ℕ) → (k ≡ Kind.union → ⊥) → (k ≡ Kind.concatenation → ⊥) → (k ≡ Kind.shuffle → ⊥) → (s : Sign) → k ≡ kind-of-sign s → ⊥
+unfolding kind-of-sign
+no-sign k a b c union e = a e
+no-sign k a b c concatenation e = b e
+no-sign k a b c shuffle e = c e
+
 pub meaning-is : (m : Meaning) (k : ℕ) → Numbered m k → meaning k ≡ m
 unfolding meaning
 meaning-is ∅-kind k e = rw e

@@ -86,6 +86,15 @@ parent {i} {w} (of-sign s l r hl hr e) =
     subst (Parent i w) (sym (ap row-children e ∙ children-sign (entry (kind-of-sign s) l r) s refl)) (over-two s l r hl hr e)
 parent {i} {w} (of-star l hl e) = subst (Parent i w) (sym (ap row-children e)) (over-one l hl e)
 
+pub of-none : {i : ℕ} {w : Row} → Parent i w [] → (j : ℕ) → Sound j w
+of-none (leaf h) = h
+
+pub of-one : {i c : ℕ} {w : Row} → Parent i w (c ∷ []) → (c < i) × (w ≡ entry Kind.star c 0)
+of-one (over-one l hl e) = (hl, e)
+
+pub of-two : {i c d : ℕ} {w : Row} → Parent i w (c ∷ d ∷ []) → (s : Sign) × (c < i) × (d < i) × (w ≡ entry (kind-of-sign s) c d)
+of-two (over-two s l r hl hr e) = (s, hl, hr, e)
+
 -- ---- Entries without fault
 
 -- What the check lets through is a row of 01's table of kinds.

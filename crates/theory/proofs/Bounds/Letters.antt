@@ -6,9 +6,10 @@ use mathlib.Core.Bool.{Bool, true, false, cond}
 use mathlib.Core.List.{List, [], _∷_, _++_, map, List·Memᴰ, List·Memᴰ·head, List·Memᴰ·not-nil, Memᴰ·of-map, Memᴰ·append-left, Memᴰ·append-right}
 use lib.Dec.{eqb}
 use borrow.Author.Tests.{eqb-true}
-use Rattle.theory.specs.Expression.{Expression, pair, Sign, ∅, ε, letter, binary, star, union, concatenation, shuffle, letters}
+use Rattle.theory.specs.Expression.{Expression, Sign, ∅, ε, letter, binary, star, union, concatenation, shuffle, letters}
 use Rattle.theory.specs.Derivative.{empty-word, joined, derivative}
 use Rattle.theory.specs.Distinct.{Within}
+use Rattle.theory.proofs.Pair.{pair-letters}
 use Rattle.theory.proofs.Derivative.{gathered, derivative-of, joined-cases}
 use Rattle.theory.proofs.Members.{either-half, within-append, within-both}
 use Rattle.theory.proofs.Support.{followed-by, support}
@@ -48,14 +49,10 @@ derivative-letter a (star x) m h =
 
 -- ---- The members of the support
 
-letters-pair : (s : Sign) (m n : Expression) → Within (letters (pair s m n)) (letters m ++ letters n)
-unfolding letters pair
-letters-pair s m n z h = h
-
 letters-joined : (s : Sign) (m n : Expression) → Within (letters (joined s m n)) (letters m ++ letters n)
 unfolding letters
 letters-joined s =
-    joined-cases s (λ m n j. Within (letters j) (letters m ++ letters n)) (λ u m z h. Memᴰ·append-left [] h) (λ u n z h. h) (letters-pair s)
+    joined-cases s (λ m n j. Within (letters j) (letters m ++ letters n)) (λ u m z h. Memᴰ·append-left [] h) (λ u n z h. h) (pair-letters s)
 
 letters-inherited : Inherited (λ e m. Within (letters m) (letters e))
 unfolding letters

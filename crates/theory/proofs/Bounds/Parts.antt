@@ -4,13 +4,14 @@ use Prim.Native.Nat.{_+_, _*_, _^_, _≤_}
 use native.Mathlib.Nat.{le-trans, le-of-eq}
 use native.Mathlib.Omega.{arith}
 use mathlib.Core.Path.{_≡_, refl, ap}
-use mathlib.Core.Logic.{_⊎_, inl, inr, ⊎-elim}
+use mathlib.Core.Logic.{⊎-elim}
 use mathlib.Core.List.{List, _∷_, _++_, flatMap, List·Memᴰ, List·Memᴰ·head, List·Memᴰ·tail, List·Memᴰ·append-cases, List·Memᴰ·eq-of-singleton, Memᴰ·cast, Memᴰ·append-left, Memᴰ·append-right}
 use lib.ListN.{length, length-append}
 use lib.Pow.{pow-mono}
 use Rattle.theory.specs.Expression.{Expression, pair, Sign, ∅, ε, letter, binary, star, concatenation, letters, parts, entries}
 use Rattle.theory.specs.Derivative.{joined}
 use Rattle.theory.specs.Distinct.{Within}
+use Rattle.theory.proofs.Pair.{pair-left, pair-right, pair-parts}
 use Rattle.theory.proofs.Derivative.{joined-cases}
 use Rattle.theory.proofs.Rows.Trees.{parts-length}
 use Rattle.theory.proofs.Members.{length-flatMap, to-flatMap}
@@ -27,48 +28,20 @@ part-whole (letter a) = List·Memᴰ·head refl
 part-whole (binary s x y) = Memᴰ·append-right (parts x ++ parts y) (List·Memᴰ·head refl)
 part-whole (star x) = Memᴰ·append-right (parts x) (List·Memᴰ·head refl)
 
-part-left : (s : Sign) (x y : Expression) → Within (parts x) (parts (binary s x y))
-unfolding parts
-part-left s x y z h = Memᴰ·append-left _ (Memᴰ·append-left (parts y) h)
-
-part-right : (s : Sign) (x y : Expression) → Within (parts y) (parts (binary s x y))
-unfolding parts
-part-right s x y z h = Memᴰ·append-left _ (Memᴰ·append-right (parts x) h)
-
 pub part-inner : (x : Expression) → Within (parts x) (parts (star x))
 unfolding parts
 part-inner x z h = Memᴰ·append-left _ h
 
-parts-of : (s : Sign) (x y : Expression) {z : Expression} → List·Memᴰ z (parts (binary s x y))
-    → (List·Memᴰ z (parts x) ⊎ List·Memᴰ z (parts y)) ⊎ (z ≡ binary s x y)
-unfolding parts
-parts-of s x y h =
-    ⊎-elim (λ t. inl (List·Memᴰ·append-cases (parts x) t)) (λ t. inr (List·Memᴰ·eq-of-singleton t)) (List·Memᴰ·append-cases (parts x ++ parts y) h)
-
--- The same of a sign's tree, wherever one is made.
-pub pair-left : (s : Sign) (x y : Expression) → Within (parts x) (parts (pair s x y))
-unfolding pair
-pair-left = part-left
-
-pub pair-right : (s : Sign) (x y : Expression) → Within (parts y) (parts (pair s x y))
-unfolding pair
-pair-right = part-right
-
-pair-parts : (s : Sign) (x y : Expression) {z : Expression} → List·Memᴰ z (parts (pair s x y))
-    → (List·Memᴰ z (parts x) ⊎ List·Memᴰ z (parts y)) ⊎ (z ≡ pair s x y)
-unfolding pair
-pair-parts = parts-of
-
 -- A part has no more letters.
 part-letters : (e p : Expression) → List·Memᴰ p (parts e) → length (letters p) ≤ length (letters e)
-unfolding letters parts
+unfolding letters parts pair
 part-letters ∅ p h = le-of-eq (ap (λ t. length (letters t)) (List·Memᴰ·eq-of-singleton h))
 part-letters ε p h = le-of-eq (ap (λ t. length (letters t)) (List·Memᴰ·eq-of-singleton h))
 part-letters (letter a) p h = le-of-eq (ap (λ t. length (letters t)) (List·Memᴰ·eq-of-singleton h))
 part-letters (binary s x y) p h =
     ⊎-elim
     (⊎-elim (λ t. let l = part-letters x p t in rw length-append (omega arith)) (λ t. let l = part-letters y p t in rw length-append (omega arith)))
-    (λ e. le-of-eq (ap (λ t. length (letters t)) e)) (parts-of s x y h)
+    (λ e. le-of-eq (ap (λ t. length (letters t)) e)) (pair-parts s x y h)
 part-letters (star x) p h =
     ⊎-elim (part-letters x p) (λ t. le-of-eq (ap (λ t. length (letters t)) (List·Memᴰ·eq-of-singleton t))) (List·Memᴰ·append-cases (parts x) h)
 
@@ -92,13 +65,13 @@ held-joined s e =
     (λ m n l r k z h. ⊎-elim (⊎-elim (l z) (r z)) (λ t. member e (part-whole e) (List·Memᴰ·tail (Memᴰ·cast t k))) (pair-parts s m n h))
 
 held-inherited : Inherited AllHeld
-unfolding parts
+unfolding parts pair
 held-inherited = record {
   itself = λ e z h. member z h (List·Memᴰ·head refl);
   leaf = λ a z h. empty (List·Memᴰ·eq-of-singleton h);
-  left = λ s x y m k z h. held-within (part-left s x y) (k z h);
-  right = λ s x y m k z h. held-within (part-right s x y) (k z h);
-  both = λ s x y m n k l. held-joined s (binary s x y) m n (λ z h. held-within (part-left s x y) (k z h)) (λ z h. held-within (part-right s x y) (l z h));
+  left = λ s x y m k z h. held-within (pair-left s x y) (k z h);
+  right = λ s x y m k z h. held-within (pair-right s x y) (k z h);
+  both = λ s x y m n k l. held-joined s (binary s x y) m n (λ z h. held-within (pair-left s x y) (k z h)) (λ z h. held-within (pair-right s x y) (l z h));
   again = λ x m k. held-joined concatenation (star x) m (star x) (λ z h. held-within (part-inner x) (k z h)) (λ z h. member z h (List·Memᴰ·head refl));
 }
 

@@ -1,135 +1,105 @@
+-- `empty_word` meets its contract: a leaf's answer, a star's, and a sign's from its children's. The falling number is the row.
 use borrow.Author.Needs.{needs}
-use native.Mathlib.Omega.{arith}
-use mathlib.Core.Path.{_∙_, ap₂}
-use mathlib.Core.Bool.{_&&_, _||_}
-use Rattle.derive.proofs.Answering.{sound-to-less, left-below, right-below, word-ε, word-star, word-none, word-union, word-both}
 use Prim.Native.Nat.{ℕ, _<_}
-use borrow.Fn.Kinds.{In}
+use native.Mathlib.Omega.{arith}
+use mathlib.Core.Path.{ap₂, _∙_}
+use mathlib.Core.Bool.{_&&_, _||_}
+use borrow.Fn.Kinds.{In, Out}
 use borrow.Fn.PlainCycle.{Measures, is, falls, and}
-use Rattle.derive.proofs.rows.empty_word.Reads as empty-word
-use Rattle.derive.proofs.rows.empty_word.Kinds as empty-word-kinds
-use Rattle.derive.proofs.rows.+empty_word.Lts-empty_word as empty-word-lts
-use Rattle.columns.proofs.row_at.Reads as row-at-reads
+use denote.Ref.{now}
+use Rattle.theory.specs.Table.{table}
+use Rattle.columns.specs.Row.{as-row}
+use Rattle.derive.proofs.Growing.{sound-to-less}
+use Rattle.derive.proofs.Reading.{Read, sign-read, word-leaf, word-star, word-union, word-both}
+use Rattle.derive.proofs.rows.empty_word.Reads as word
+use Rattle.derive.proofs.rows.empty_word.Kinds as kinds
+use Rattle.derive.proofs.rows.+empty_word.Lts-empty_word as lts
+use Rattle.columns.proofs.Row.children.Reads as children
+use Rattle.columns.proofs.row_at.Reads as row-at
 use Rattle.derive.proofs.rows.+empty_word.{statement}
 use Rattle.derive.proofs.rows.+empty_word.Tie.{close}
 
-abbrev μ-empty-word : Measures 3 empty-word-kinds.ps ℕ
-μ-empty-word κs a = a .1 .1 .1 .0
+abbrev μ-word : Measures 3 kinds.ps ℕ
+μ-word κs a = a .1 .1 .1 .0
 
-abbrev empty-word-at : ℕ → In 3 empty-word-kinds.ps
-empty-word-at t =
-    and 3 empty-word-kinds.ps (is 3 empty-word-kinds.ps μ-empty-word t) empty-word.Pre
+abbrev at : ℕ → In 3 kinds.ps
+at t = and 3 kinds.ps (is 3 kinds.ps μ-word t) word.Pre
 
-abbrev empty-word-below : ℕ → In 3 empty-word-kinds.ps
-empty-word-below t =
-    and 3 empty-word-kinds.ps (falls 3 empty-word-kinds.ps _<_ μ-empty-word t) empty-word.Pre
+abbrev below : ℕ → In 3 kinds.ps
+below t = and 3 kinds.ps (falls 3 kinds.ps _<_ μ-word t) word.Pre
 
--- src/rows.rt:86:9
-empty-word-row-at-requires : (t : ℕ) → empty-word-lts.Need-row-at-requires (
-  row-at-reads.Asked,
-  row-at-reads.Learnt,
-  empty-word-below t,
-  empty-word.Post,
-) (empty-word-at t) empty-word.Post
-empty-word-row-at-requires t c κs = let s = c .before .before .before .pre .1 in (s .in-kind, s .in-left, s .in-right)
+abbrev claims : ℕ → lts.Claims
+claims t = (row-at.Asked, row-at.Learnt, children.Asked, children.Learnt, below t, word.Post)
 
--- src/rows.rt:89:9
-empty-word-returns : (t : ℕ) → empty-word-lts.Need-returns (
-  row-at-reads.Asked,
-  row-at-reads.Learnt,
-  empty-word-below t,
-  empty-word.Post,
-) (empty-word-at t) empty-word.Post
-empty-word-returns t c = word-ε (c .before .before .before .before .before .pre .1) (c .before .row-at .ensures) (c .if1 .taken)
+module _ (t : ℕ) where
+  abbrev Here : (lts.Claims → In 3 kinds.ps → Out 3 kinds.ps kinds.r → Type 0) → Type 0
+  Here P = P (claims t) (at t) word.Post
 
--- src/rows.rt:92:9
-empty-word-returns-2 : (t : ℕ) → empty-word-lts.Need-returns-2 (
-  row-at-reads.Asked,
-  row-at-reads.Learnt,
-  empty-word-below t,
-  empty-word.Post,
-) (empty-word-at t) empty-word.Post
-empty-word-returns-2 t c = word-star (c .before .before .before .before .before .before .pre .1) (c .before .before .row-at .ensures) (c .if2 .taken)
+  -- ---- The places: the entry, the row read with its children, and two children told
 
--- src/rows.rt:95:9
-empty-word-returns-3 : (t : ℕ) → empty-word-lts.Need-returns-3 (
-  row-at-reads.Asked,
-  row-at-reads.Learnt,
-  empty-word-below t,
-  empty-word.Post,
-) (empty-word-at t) empty-word.Post
-empty-word-returns-3 t c = word-none (c .before .before .before .before .before .before .before .pre .1) (c .before .before .before .row-at .ensures) (c .if3 .taken) (c .before .before .if1 .left)
+  abbrev entry : Here lts.After-shared-slice-known3 → Here lts.Start
+  entry c = c .before .before .before
 
--- src/rows.rt:97:13
-empty-word-cast-l : (t : ℕ) → empty-word-lts.Need-cast-l (
-  row-at-reads.Asked,
-  row-at-reads.Learnt,
-  empty-word-below t,
-  empty-word.Post,
-) (empty-word-at t) empty-word.Post
-empty-word-cast-l t c = search needs
+  abbrev named : Here lts.After-l → Here lts.After-children
+  named c = c .before .before
 
--- src/rows.rt:98:13
-empty-word-cast-r : (t : ℕ) → empty-word-lts.Need-cast-r (
-  row-at-reads.Asked,
-  row-at-reads.Learnt,
-  empty-word-below t,
-  empty-word.Post,
-) (empty-word-at t) empty-word.Post
-empty-word-cast-r t c = search needs
+  abbrev two : Here lts.After-empty-word → Here lts.After-l
+  two c = c .before .before
 
--- src/rows.rt:99:9
-empty-word-empty-word-requires : (t : ℕ) → empty-word-lts.Need-empty-word-requires (
-  row-at-reads.Asked,
-  row-at-reads.Learnt,
-  empty-word-below t,
-  empty-word.Post,
-) (empty-word-at t) empty-word.Post
-empty-word-empty-word-requires t c κs = let l = left-below (c .before .before .before .before .before .before .before .before .before .pre .1) (c .before .before .before .before .before .row-at .ensures) (c .before .before .if3 .left) in (omega (arith, c .before .before .before .before .before .before .before .before .before .pre .0), sound-to-less (c .before .before .before .before .before .before .before .before .before .pre .1) l)
+  abbrev answered : Here lts.After-struct-known2 → Here lts.After-empty-word
+  answered c = c .before .before
 
--- src/rows.rt:100:9
-empty-word-empty-word-requires-2 : (t : ℕ) → empty-word-lts.Need-empty-word-requires-2 (
-  row-at-reads.Asked,
-  row-at-reads.Learnt,
-  empty-word-below t,
-  empty-word.Post,
-) (empty-word-at t) empty-word.Post
-empty-word-empty-word-requires-2 t c κs = let l = right-below (c .before .before .before .before .before .before .before .before .before .before .pre .1) (c .before .before .before .before .before .before .row-at .ensures) (c .before .before .before .if3 .left) (c .before .before .before .before .if2 .left) in (omega (arith, c .before .before .before .before .before .before .before .before .before .before .pre .0), sound-to-less (c .before .before .before .before .before .before .before .before .before .before .pre .1) l)
+  read : (c : Here lts.After-children) → (let a = entry (c .before .before) .args in
+      Read (table (now (a .kind)) (now (a .left)) (now (a .right))) (a .row) (as-row (c .before .row-at .result)) (c .children .result))
+  read c = record { sound = entry (c .before .before) .pre .1; is = c .before .row-at .ensures; named = c .children .ensures }
 
--- src/rows.rt:82:1
-empty-word-returns-4 : (t : ℕ) → empty-word-lts.Need-returns-4 (
-  row-at-reads.Asked,
-  row-at-reads.Learnt,
-  empty-word-below t,
-  empty-word.Post,
-) (empty-word-at t) empty-word.Post
-empty-word-returns-4 t c = ap₂ _||_ (c .before .before .empty-word .ensures) (c .before .empty-word2 .ensures) ∙ word-union (c .before .before .before .before .before .before .before .before .before .before .before .before .pre .1) (c .before .before .before .before .before .before .before .before .row-at .ensures) (c .if4 .taken)
+  -- ---- The needs
 
--- src/rows.rt:82:1
-empty-word-returns-5 : (t : ℕ) → empty-word-lts.Need-returns-5 (
-  row-at-reads.Asked,
-  row-at-reads.Learnt,
-  empty-word-below t,
-  empty-word.Post,
-) (empty-word-at t) empty-word.Post
-empty-word-returns-5 t c = ap₂ _&&_ (c .before .before .empty-word .ensures) (c .before .empty-word2 .ensures) ∙ word-both (c .before .before .before .before .before .before .before .before .before .before .before .before .pre .1) (c .before .before .before .before .before .before .before .before .row-at .ensures) (c .before .before .before .before .before .if3 .left) (c .if4 .left) (c .before .before .before .before .before .before .if2 .left)
+  row-at-requires : Here lts.Need-row-at-requires
+  row-at-requires c κs = let s = entry c .pre .1 in (s .in-kind, s .in-left, s .in-right)
+
+  empty-word-requires : Here lts.Need-empty-word-requires
+  empty-word-requires c κs =
+      let p = sign-read (read (named (c .before))) (c .before .l .given .1) in
+      let s = entry (named (c .before) .before .before) .pre in
+      (omega (arith, p .1, s .0), sound-to-less (s .1) (p .1))
+
+  empty-word-requires-2 : Here lts.Need-empty-word-requires-2
+  empty-word-requires-2 c κs =
+      let p = sign-read (read (named (two c))) (two c .l .given .1) in
+      let s = entry (named (two c) .before .before) .pre in
+      (omega (arith, p .2, s .0), sound-to-less (s .1) (p .2))
+
+  returns : Here lts.Need-returns
+  returns c = word-leaf (read (c .before .before .before)) (c .before .enum-told .given .1)
+
+  returns-2 : Here lts.Need-returns-2
+  returns-2 c = word-star (read (c .before .before)) (c .enum-told2 .given .1)
+
+  returns-3 : Here lts.Need-returns-3
+  returns-3 c =
+      let first = answered (c .before) in
+      let told = two first in
+      ap₂ _||_ (first .empty-word .ensures) (c .before .before .empty-word2 .ensures)
+      ∙ word-union (read (named told)) (told .l .given .1) (c .if1 .taken)
+
+  returns-4 : Here lts.Need-returns-4
+  returns-4 c =
+      let first = answered (c .before) in
+      let told = two first in
+      ap₂ _&&_ (first .empty-word .ensures) (c .before .before .empty-word2 .ensures)
+      ∙ word-both (read (named told)) (told .l .given .1) (c .if1 .left)
 
 pub +empty-word-spec : {M : Type 1} → statement M
-+empty-word-spec = close μ-empty-word λ t. empty-word-lts.spec (
-  row-at-reads.Asked,
-  row-at-reads.Learnt,
-  empty-word-below t,
-  empty-word.Post,
-)
-    (empty-word-at t)
-    empty-word.Post
-    (empty-word-row-at-requires t)
-    (empty-word-returns t)
-    (empty-word-returns-2 t)
-    (empty-word-returns-3 t)
-    (empty-word-cast-l t)
-    (empty-word-cast-r t)
-    (empty-word-empty-word-requires t)
-    (empty-word-empty-word-requires-2 t)
-    (empty-word-returns-4 t)
-    (empty-word-returns-5 t)
++empty-word-spec = close μ-word λ t. lts.spec (claims t) (at t) word.Post
+    (row-at-requires t)
+    (λ c κs. search needs)
+    (λ c. search needs)
+    (λ c. search needs)
+    (λ c. search needs)
+    (empty-word-requires t)
+    (empty-word-requires-2 t)
+    (returns t)
+    (returns-2 t)
+    (returns-3 t)
+    (returns-4 t)

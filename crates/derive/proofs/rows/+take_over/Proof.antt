@@ -1,489 +1,289 @@
+-- `take_over` meets its contract: a leaf's row is interned, a star's after its child's tree, a sign's after both. The falling number is the
+-- entry.
 use borrow.Author.Needs.{needs}
-use native.Mathlib.Nat.{lt-of-lt-of-le}
-use Rattle.theory.proofs.KindOf.{sound-kind}
-use Rattle.theory.specs.Table.{of-star, entry}
-use Prim.Native.Nat.{ℕ}
-use Rattle.derive.proofs.Answering.{sound-read}
-use Rattle.derive.proofs.Taking.{takes-row, parts-of-left, parts-of-right, star-joined, sign-joined, sign-sound}
-use native.Mathlib.Omega.{arith}
-use mathlib.Core.Path.{ap}
-use Rattle.derive.proofs.Answering.{sound-to-less, left-below, right-below}
-use Rattle.derive.proofs.Taking.{brought-none, brought-child, brought-then, takes-short, leaf-sound, leaf-tree, took, took-not}
 use Prim.Native.Nat.{ℕ, _<_}
-use borrow.Fn.Kinds.{In}
+use native.Mathlib.Omega.{arith}
+use mathlib.Core.Path.{refl, _∙_}
+use borrow.Fn.Kinds.{In, Out}
 use borrow.Fn.PlainCycle.{Measures, is, falls, and}
-use Rattle.derive.proofs.rows.take_over.Reads as take-over
-use Rattle.derive.proofs.rows.take_over.Kinds as take-over-kinds
-use Rattle.derive.proofs.rows.+take_over.Lts-take_over as take-over-lts
-use Rattle.columns.proofs.row_at.Reads as row-at-reads
-use Rattle.derive.proofs.rows.intern.Reads as intern-reads
+use denote.Ref.{now}
+use Rattle.theory.specs.Table.{table, of-star}
+use Rattle.columns.specs.Row.{as-row}
+use Rattle.derive.proofs.Coming.{fitted-then}
+use Rattle.derive.proofs.Growing.{sound-to-less}
+use Rattle.derive.proofs.Reading.{Read, leaf-read, star-read, sign-read}
+use Rattle.derive.proofs.Taking.{took, named-small, takes-leaf, takes-star, star-full, left-full, right-full, pair-sound, takes-pair}
+use Rattle.derive.proofs.rows.take_over.Reads as over
+use Rattle.derive.proofs.rows.take_over.Kinds as kinds
+use Rattle.derive.proofs.rows.+take_over.Lts-take_over as lts
+use Rattle.columns.proofs.Row.children.Reads as children
+use Rattle.columns.proofs.row_at.Reads as row-at
+use Rattle.derive.proofs.intern.intern.Reads as intern
+use Rattle.derive.proofs.intern.pair.Reads as pair
 use Rattle.derive.proofs.rows.+take_over.{statement}
 use Rattle.derive.proofs.rows.+take_over.Tie.{close}
 
-abbrev μ-take-over : Measures 6 take-over-kinds.ps ℕ
-μ-take-over κs a = a .1 .1 .1 .0
+abbrev μ-over : Measures 6 kinds.ps ℕ
+μ-over κs a = a .1 .1 .1 .0
 
-abbrev take-over-at : ℕ → In 6 take-over-kinds.ps
-take-over-at t = and 6 take-over-kinds.ps (is 6 take-over-kinds.ps μ-take-over t) take-over.Pre
+abbrev at : ℕ → In 6 kinds.ps
+at t = and 6 kinds.ps (is 6 kinds.ps μ-over t) over.Pre
 
-abbrev take-over-below : ℕ → In 6 take-over-kinds.ps
-take-over-below t =
-    and 6 take-over-kinds.ps (falls 6 take-over-kinds.ps _<_ μ-take-over t) take-over.Pre
+abbrev below : ℕ → In 6 kinds.ps
+below t = and 6 kinds.ps (falls 6 kinds.ps _<_ μ-over t) over.Pre
 
--- src/rows.rt:131:9
-take-over-row-at-requires : (t : ℕ) → take-over-lts.Need-row-at-requires (
-  row-at-reads.Asked,
-  row-at-reads.Learnt,
-  intern-reads.Asked,
-  intern-reads.Learnt,
-  take-over-below t,
-  take-over.Post,
-) (take-over-at t) take-over.Post
-take-over-row-at-requires t c κs = search needs
+abbrev claims : ℕ → lts.Claims
+claims t = (row-at.Asked, row-at.Learnt, children.Asked, children.Learnt, intern.Asked, intern.Learnt, below t, over.Post, pair.Asked, pair.Learnt)
 
--- src/rows.rt:136:9
-take-over-intern-requires : (t : ℕ) → take-over-lts.Need-intern-requires (
-  row-at-reads.Asked,
-  row-at-reads.Learnt,
-  intern-reads.Asked,
-  intern-reads.Learnt,
-  take-over-below t,
-  take-over.Post,
-) (take-over-at t) take-over.Post
-take-over-intern-requires t c κs = (c .before .before .before .before .before .before .before .before .before .before .before .pre .1 .1 .0, ((c .before .before .before .before .before .before .before .before .before .before .before .pre .1 .1 .1 .0, c .before .before .before .before .before .before .before .before .before .before .before .pre .1 .1 .1 .1), leaf-sound _ (sound-read (c .before .before .before .before .before .before .before .before .before .before .before .pre .1 .0) (c .before .before .before .before .row-at .ensures)) (c .before .before .before .if1 .taken)))
+module _ (t : ℕ) where
+  abbrev Here : (lts.Claims → In 6 kinds.ps → Out 6 kinds.ps kinds.r → Type 0) → Type 0
+  Here P = P (claims t) (at t) over.Post
 
--- src/rows.rt:136:9
-take-over-same-length : (t : ℕ) → take-over-lts.Need-same-length (
-  row-at-reads.Asked,
-  row-at-reads.Learnt,
-  intern-reads.Asked,
-  intern-reads.Learnt,
-  take-over-below t,
-  take-over.Post,
-) (take-over-at t) take-over.Post
-take-over-same-length t c = search needs
+  -- ---- The places: the entry, and the given row with its children
 
--- src/rows.rt:136:9
-take-over-same-length-2 : (t : ℕ) → take-over-lts.Need-same-length-2 (
-  row-at-reads.Asked,
-  row-at-reads.Learnt,
-  intern-reads.Asked,
-  intern-reads.Learnt,
-  take-over-below t,
-  take-over.Post,
-) (take-over-at t) take-over.Post
-take-over-same-length-2 t c = search needs
+  abbrev given : Here lts.After-shared-slice-known3 → Here lts.Start
+  given c = c .before .before .before
 
--- src/rows.rt:136:9
-take-over-same-length-3 : (t : ℕ) → take-over-lts.Need-same-length-3 (
-  row-at-reads.Asked,
-  row-at-reads.Learnt,
-  intern-reads.Asked,
-  intern-reads.Learnt,
-  take-over-below t,
-  take-over.Post,
-) (take-over-at t) take-over.Post
-take-over-same-length-3 t c = search needs
+  abbrev lent : Here lts.After-slice-known3 → Here lts.After-shared-slice-known3
+  lent c = c .before .before .before
 
--- src/rows.rt:136:9
-take-over-returns : (t : ℕ) → take-over-lts.Need-returns (
-  row-at-reads.Asked,
-  row-at-reads.Learnt,
-  intern-reads.Asked,
-  intern-reads.Learnt,
-  take-over-below t,
-  take-over.Post,
-) (take-over-at t) take-over.Post
-take-over-returns t c = takes-row _ _ (c .before .before .before .before .before .before .before .before .before .before .before .before .before .before .before .before .before .before .args .room) _ (c .before .before .before .before .before .before .intern .result) _ (brought-none _ (c .before .before .before .before .before .before .before .before .before .before .before .before .before .before .before .before .before .before .pre .1 .1 .0)) (leaf-tree _ (c .before .before .before .before .before .before .before .before .before .before .before .before .before .before .before .before .before .before .pre .1 .0) (c .before .before .before .before .before .before .before .before .before .before .before .row-at .ensures) (c .before .before .before .before .before .before .before .before .before .before .if1 .taken)) (c .before .before .before .before .before .before .intern .ensures)
+  abbrev entry : Here lts.After-children → Here lts.Start
+  entry c = given (lent (c .before .before))
 
--- src/rows.rt:142:9
-take-over-cast-take-over : (t : ℕ) → take-over-lts.Need-cast-take-over (
-  row-at-reads.Asked,
-  row-at-reads.Learnt,
-  intern-reads.Asked,
-  intern-reads.Learnt,
-  take-over-below t,
-  take-over.Post,
-) (take-over-at t) take-over.Post
-take-over-cast-take-over t c = search needs
+  read : (c : Here lts.After-children) → (let a = entry c .args in
+      Read (table (now (a .gkind)) (now (a .gleft)) (now (a .gright))) (a .e) (as-row (c .before .row-at .result)) (c .children .result))
+  read c = record { sound = entry c .pre .1 .0; is = c .before .row-at .ensures; named = c .children .ensures }
 
--- src/rows.rt:138:44
-take-over-take-over-requires : (t : ℕ) → take-over-lts.Need-take-over-requires (
-  row-at-reads.Asked,
-  row-at-reads.Learnt,
-  intern-reads.Asked,
-  intern-reads.Learnt,
-  take-over-below t,
-  take-over.Post,
-) (take-over-at t) take-over.Post
-take-over-take-over-requires t c κs = let l = left-below (c .before .before .before .before .before .before .before .before .before .before .before .pre .1 .0) (c .before .before .before .before .row-at .ensures) (c .before .before .before .if1 .left) in (omega (arith, c .before .before .before .before .before .before .before .before .before .before .before .pre .0), (sound-to-less (c .before .before .before .before .before .before .before .before .before .before .before .pre .1 .0) l, (c .before .before .before .before .before .before .before .before .before .before .before .pre .1 .1 .0, c .before .before .before .before .before .before .before .before .before .before .before .pre .1 .1 .1)))
+  -- ---- A leaf: it is told, and its row made
 
--- src/rows.rt:138:29
-take-over-enum-known-x : (t : ℕ) → take-over-lts.Need-enum-known-x (
-  row-at-reads.Asked,
-  row-at-reads.Learnt,
-  intern-reads.Asked,
-  intern-reads.Learnt,
-  take-over-below t,
-  take-over.Post,
-) (take-over-at t) take-over.Post
-take-over-enum-known-x t c = search needs
+  abbrev leaf-told : Here lts.After-intern-arg3 → Here lts.After-enum-told
+  leaf-told c = c .before .before .before
 
--- src/rows.rt:149:9
-take-over-enum-told : (t : ℕ) → take-over-lts.Need-enum-told (
-  row-at-reads.Asked,
-  row-at-reads.Learnt,
-  intern-reads.Asked,
-  intern-reads.Learnt,
-  take-over-below t,
-  take-over.Post,
-) (take-over-at t) take-over.Post
-take-over-enum-told t c = search needs
+  abbrev leaf-home : Here lts.After-slice-known6 → Here lts.After-left
+  leaf-home c = c .before .before .before
 
--- src/rows.rt:149:9
-take-over-same-length-4 : (t : ℕ) → take-over-lts.Need-same-length-4 (
-  row-at-reads.Asked,
-  row-at-reads.Learnt,
-  intern-reads.Asked,
-  intern-reads.Learnt,
-  take-over-below t,
-  take-over.Post,
-) (take-over-at t) take-over.Post
-take-over-same-length-4 t c = search needs
+  abbrev leaf-made : Here lts.After-slice-known6 → Here lts.After-intern
+  leaf-made c = leaf-home c .before .before .before
 
--- src/rows.rt:149:9
-take-over-same-length-5 : (t : ℕ) → take-over-lts.Need-same-length-5 (
-  row-at-reads.Asked,
-  row-at-reads.Learnt,
-  intern-reads.Asked,
-  intern-reads.Learnt,
-  take-over-below t,
-  take-over.Post,
-) (take-over-at t) take-over.Post
-take-over-same-length-5 t c = search needs
+  -- ---- A star: its child is told and taken over, its row made
 
--- src/rows.rt:149:9
-take-over-same-length-6 : (t : ℕ) → take-over-lts.Need-same-length-6 (
-  row-at-reads.Asked,
-  row-at-reads.Learnt,
-  intern-reads.Asked,
-  intern-reads.Learnt,
-  take-over-below t,
-  take-over.Post,
-) (take-over-at t) take-over.Post
-take-over-same-length-6 t c = search needs
+  abbrev child-told : Here lts.After-take-over-arg3 → Here lts.After-known-told
+  child-told c = c .before .before .before
 
--- src/rows.rt:149:9
-take-over-returns-2 : (t : ℕ) → take-over-lts.Need-returns-2 (
-  row-at-reads.Asked,
-  row-at-reads.Learnt,
-  intern-reads.Asked,
-  intern-reads.Learnt,
-  take-over-below t,
-  take-over.Post,
-) (take-over-at t) take-over.Post
-take-over-returns-2 t c =
-    takes-short _ _ _ (brought-none _ (c .before .before .before .before .before .before .before .before .before .before .before .before .before .before .before .before .before .before .before .before .pre .1 .1 .0)) (parts-of-left (c .before .before .before .before .before .before .before .before .before .before .before .before .before .before .before .before .before .before .before .before .pre .1 .0) (c .before .before .before .before .before .before .before .before .before .before .before .before .before .row-at .ensures) (c .before .before .before .before .before .before .before .before .before .before .before .before .if1 .left))
-    (took-not _ _ _ _ _ (c .enum-told .given .1) (c .before .before .before .before .before .before .before .before .take-over .ensures))
+  abbrev child-home : Here lts.After-slice-known9 → Here lts.After-left2
+  child-home c = c .before .before .before
 
--- src/rows.rt:152:54
-take-over-cast-intern : (t : ℕ) → take-over-lts.Need-cast-intern (
-  row-at-reads.Asked,
-  row-at-reads.Learnt,
-  intern-reads.Asked,
-  intern-reads.Learnt,
-  take-over-below t,
-  take-over.Post,
-) (take-over-at t) take-over.Post
-take-over-cast-intern t c = let k = took _ _ _ _ _ (c .before .before .before .before .before .x .given .1) (c .before .before .before .before .before .before .before .before .before .before .before .before .before .take-over .ensures) in record { fits = omega (arith, k .there, k .fits, c .before .before .before .before .before .before .before .before .before .before .before .before .before .before .before .before .before .before .before .before .before .before .before .before .before .pre .1 .1 .1 .2) }
+  abbrev child-taken : Here lts.After-slice-known9 → Here lts.After-take-over
+  child-taken c = child-home c .before .before .before
 
--- src/rows.rt:152:9
-take-over-intern-requires-2 : (t : ℕ) → take-over-lts.Need-intern-requires-2 (
-  row-at-reads.Asked,
-  row-at-reads.Learnt,
-  intern-reads.Asked,
-  intern-reads.Learnt,
-  take-over-below t,
-  take-over.Post,
-) (take-over-at t) take-over.Post
-take-over-intern-requires-2 t c κs =
-    let k = (took _ _ _ _ _ (c .before .before .before .before .before .x .given .1) (c .before .before .before .before .before .before .before .before .before .before .before .before .before .take-over .ensures)) in
-    (k .brought .grown .rows, ((k .fits, omega (arith, c .before .before .before .before .before .before .before .before .before .before .before .before .before .take-over .kept .1 .1 .1 .1 .0, c .before .before .before .before .before .before .before .before .before .before .before .before .before .before .before .before .before .before .before .before .before .before .before .before .before .pre .1 .1 .1 .1)), of-star _ (k .there) (ap (λ (j : ℕ). entry j (c .before .before .before .before .before .x .given .0 .0) 0) (c .before .before .before .if2 .taken))))
+  abbrev child-of : Here lts.After-take-over → Here lts.After-child
+  child-of c = child-told (c .before) .before
 
--- src/rows.rt:152:9
-take-over-same-length-7 : (t : ℕ) → take-over-lts.Need-same-length-7 (
-  row-at-reads.Asked,
-  row-at-reads.Learnt,
-  intern-reads.Asked,
-  intern-reads.Learnt,
-  take-over-below t,
-  take-over.Post,
-) (take-over-at t) take-over.Post
-take-over-same-length-7 t c = search needs
+  abbrev star-told : Here lts.After-intern-arg6 → Here lts.After-known-told2
+  star-told c = c .before .before .before
 
--- src/rows.rt:152:9
-take-over-same-length-8 : (t : ℕ) → take-over-lts.Need-same-length-8 (
-  row-at-reads.Asked,
-  row-at-reads.Learnt,
-  intern-reads.Asked,
-  intern-reads.Learnt,
-  take-over-below t,
-  take-over.Post,
-) (take-over-at t) take-over.Post
-take-over-same-length-8 t c = search needs
+  abbrev star-home : Here lts.After-slice-known12 → Here lts.After-left3
+  star-home c = c .before .before .before
 
--- src/rows.rt:152:9
-take-over-same-length-9 : (t : ℕ) → take-over-lts.Need-same-length-9 (
-  row-at-reads.Asked,
-  row-at-reads.Learnt,
-  intern-reads.Asked,
-  intern-reads.Learnt,
-  take-over-below t,
-  take-over.Post,
-) (take-over-at t) take-over.Post
-take-over-same-length-9 t c = search needs
+  abbrev star-made : Here lts.After-slice-known12 → Here lts.After-intern2
+  star-made c = star-home c .before .before .before
 
--- src/rows.rt:152:9
-take-over-returns-3 : (t : ℕ) → take-over-lts.Need-returns-3 (
-  row-at-reads.Asked,
-  row-at-reads.Learnt,
-  intern-reads.Asked,
-  intern-reads.Learnt,
-  take-over-below t,
-  take-over.Post,
-) (take-over-at t) take-over.Post
-take-over-returns-3 t c =
-    let k = (took _ _ _ _ _ (c .before .before .before .before .before .before .before .before .before .before .before .before .x .given .1) (c .before .before .before .before .before .before .before .before .before .before .before .before .before .before .before .before .before .before .before .before .take-over .ensures)) in
-    takes-row _ _ (c .before .before .before .before .before .before .before .before .before .before .before .before .before .before .before .before .before .before .before .before .before .before .before .before .before .before .before .before .before .before .before .before .args .room) _ (c .before .before .before .before .before .before .intern2 .result) _ (brought-child _ (k .brought) (parts-of-left (c .before .before .before .before .before .before .before .before .before .before .before .before .before .before .before .before .before .before .before .before .before .before .before .before .before .before .before .before .before .before .before .before .pre .1 .0) (c .before .before .before .before .before .before .before .before .before .before .before .before .before .before .before .before .before .before .before .before .before .before .before .before .before .row-at .ensures) (c .before .before .before .before .before .before .before .before .before .before .before .before .before .before .before .before .before .before .before .before .before .before .before .before .if1 .left)))
-    (star-joined (c .before .before .before .before .before .before .before .before .before .before .before .before .before .before .before .before .before .before .before .before .before .before .before .before .before .before .before .before .before .before .before .before .pre .1 .0) (c .before .before .before .before .before .before .before .before .before .before .before .before .before .before .before .before .before .before .before .before .before .before .before .before .before .row-at .ensures) (c .before .before .before .before .before .before .before .before .before .before .if2 .taken) k) (c .before .before .before .before .before .before .intern2 .ensures)
+  -- ---- A sign: its children are told and taken over, its row made
 
--- src/rows.rt:158:9
-take-over-cast-take-over-2 : (t : ℕ) → take-over-lts.Need-cast-take-over-2 (
-  row-at-reads.Asked,
-  row-at-reads.Learnt,
-  intern-reads.Asked,
-  intern-reads.Learnt,
-  take-over-below t,
-  take-over.Post,
-) (take-over-at t) take-over.Post
-take-over-cast-take-over-2 t c = search needs
+  abbrev two-told : Here lts.After-take-over-arg6 → Here lts.After-known-told3
+  two-told c = c .before .before .before
 
--- src/rows.rt:154:44
-take-over-take-over-requires-2 : (t : ℕ) → take-over-lts.Need-take-over-requires-2 (
-  row-at-reads.Asked,
-  row-at-reads.Learnt,
-  intern-reads.Asked,
-  intern-reads.Learnt,
-  take-over-below t,
-  take-over.Post,
-) (take-over-at t) take-over.Post
-take-over-take-over-requires-2 t c κs =
-    let k = (took _ _ _ _ _ (c .before .before .before .before .before .x .given .1) (c .before .before .before .before .before .before .before .before .before .before .before .before .before .take-over .ensures)) in
-    let l = right-below (c .before .before .before .before .before .before .before .before .before .before .before .before .before .before .before .before .before .before .before .before .before .before .before .before .before .pre .1 .0) (c .before .before .before .before .before .before .before .before .before .before .before .before .before .before .before .before .before .before .row-at .ensures) (c .before .before .before .before .before .before .before .before .before .before .before .before .before .before .before .before .before .if1 .left) (c .before .before .before .if2 .left) in
-    (omega (arith, c .before .before .before .before .before .before .before .before .before .before .before .before .before .before .before .before .before .before .before .before .before .before .before .before .before .pre .0), (sound-to-less (c .before .before .before .before .before .before .before .before .before .before .before .before .before .before .before .before .before .before .before .before .before .before .before .before .before .pre .1 .0) l, (k .brought .grown .rows, (k .fits, omega (arith, c .before .before .before .before .before .before .before .before .before .before .before .before .before .take-over .kept .1 .1 .1 .1 .0, c .before .before .before .before .before .before .before .before .before .before .before .before .before .before .before .before .before .before .before .before .before .before .before .before .before .pre .1 .1 .1 .1), c .before .before .before .before .before .before .before .before .before .before .before .before .before .before .before .before .before .before .before .before .before .before .before .before .before .pre .1 .1 .1 .2))))
+  abbrev left-home : Here lts.After-slice-known15 → Here lts.After-left4
+  left-home c = c .before .before .before
 
--- src/rows.rt:154:29
-take-over-enum-known-y : (t : ℕ) → take-over-lts.Need-enum-known-y (
-  row-at-reads.Asked,
-  row-at-reads.Learnt,
-  intern-reads.Asked,
-  intern-reads.Learnt,
-  take-over-below t,
-  take-over.Post,
-) (take-over-at t) take-over.Post
-take-over-enum-known-y t c = search needs
+  abbrev left-taken : Here lts.After-slice-known15 → Here lts.After-take-over2
+  left-taken c = left-home c .before .before .before
 
--- src/rows.rt:165:9
-take-over-enum-told-2 : (t : ℕ) → take-over-lts.Need-enum-told-2 (
-  row-at-reads.Asked,
-  row-at-reads.Learnt,
-  intern-reads.Asked,
-  intern-reads.Learnt,
-  take-over-below t,
-  take-over.Post,
-) (take-over-at t) take-over.Post
-take-over-enum-told-2 t c = search needs
+  abbrev two-of : Here lts.After-take-over2 → Here lts.After-l
+  two-of c = two-told (c .before) .before
 
--- src/rows.rt:165:9
-take-over-same-length-10 : (t : ℕ) → take-over-lts.Need-same-length-10 (
-  row-at-reads.Asked,
-  row-at-reads.Learnt,
-  intern-reads.Asked,
-  intern-reads.Learnt,
-  take-over-below t,
-  take-over.Post,
-) (take-over-at t) take-over.Post
-take-over-same-length-10 t c = search needs
+  abbrev right-asked : Here lts.After-take-over-arg9 → Here lts.After-known-told4
+  right-asked c = c .before .before .before
 
--- src/rows.rt:165:9
-take-over-same-length-11 : (t : ℕ) → take-over-lts.Need-same-length-11 (
-  row-at-reads.Asked,
-  row-at-reads.Learnt,
-  intern-reads.Asked,
-  intern-reads.Learnt,
-  take-over-below t,
-  take-over.Post,
-) (take-over-at t) take-over.Post
-take-over-same-length-11 t c = search needs
+  abbrev right-home : Here lts.After-slice-known18 → Here lts.After-left5
+  right-home c = c .before .before .before
 
--- src/rows.rt:165:9
-take-over-same-length-12 : (t : ℕ) → take-over-lts.Need-same-length-12 (
-  row-at-reads.Asked,
-  row-at-reads.Learnt,
-  intern-reads.Asked,
-  intern-reads.Learnt,
-  take-over-below t,
-  take-over.Post,
-) (take-over-at t) take-over.Post
-take-over-same-length-12 t c = search needs
+  abbrev right-taken : Here lts.After-slice-known18 → Here lts.After-take-over3
+  right-taken c = right-home c .before .before .before
 
--- src/rows.rt:165:9
-take-over-returns-4 : (t : ℕ) → take-over-lts.Need-returns-4 (
-  row-at-reads.Asked,
-  row-at-reads.Learnt,
-  intern-reads.Asked,
-  intern-reads.Learnt,
-  take-over-below t,
-  take-over.Post,
-) (take-over-at t) take-over.Post
-take-over-returns-4 t c =
-    let k = (took _ _ _ _ _ (c .before .before .before .before .before .before .before .before .before .before .before .before .before .before .x .given .1) (c .before .before .before .before .before .before .before .before .before .before .before .before .before .before .before .before .before .before .before .before .before .before .take-over .ensures)) in
-    takes-short _ _ _ (brought-child _ (k .brought) (parts-of-left (c .before .before .before .before .before .before .before .before .before .before .before .before .before .before .before .before .before .before .before .before .before .before .before .before .before .before .before .before .before .before .before .before .before .before .pre .1 .0) (c .before .before .before .before .before .before .before .before .before .before .before .before .before .before .before .before .before .before .before .before .before .before .before .before .before .before .before .row-at .ensures) (c .before .before .before .before .before .before .before .before .before .before .before .before .before .before .before .before .before .before .before .before .before .before .before .before .before .before .if1 .left))) (parts-of-right (c .before .before .before .before .before .before .before .before .before .before .before .before .before .before .before .before .before .before .before .before .before .before .before .before .before .before .before .before .before .before .before .before .before .before .pre .1 .0) (c .before .before .before .before .before .before .before .before .before .before .before .before .before .before .before .before .before .before .before .before .before .before .before .before .before .before .before .row-at .ensures) (c .before .before .before .before .before .before .before .before .before .before .before .before .before .before .before .before .before .before .before .before .before .before .before .before .before .before .if1 .left) (c .before .before .before .before .before .before .before .before .before .before .before .before .if2 .left))
-    (took-not _ _ _ _ _ (c .enum-told2 .given .1) (c .before .before .before .before .before .before .before .before .take-over2 .ensures))
+  abbrev left-of : Here lts.After-take-over3 → Here lts.After-x2
+  left-of c = right-asked (c .before) .before
 
--- src/rows.rt:167:43
-take-over-cast-intern-2 : (t : ℕ) → take-over-lts.Need-cast-intern-2 (
-  row-at-reads.Asked,
-  row-at-reads.Learnt,
-  intern-reads.Asked,
-  intern-reads.Learnt,
-  take-over-below t,
-  take-over.Post,
-) (take-over-at t) take-over.Post
-take-over-cast-intern-2 t c = let k = (took _ _ _ _ _ (c .before .before .before .before .before .before .before .before .before .before .before .before .before .before .before .before .before .before .x .given .1) (c .before .before .before .before .before .before .before .before .before .before .before .before .before .before .before .before .before .before .before .before .before .before .before .before .before .before .take-over .ensures)) in record { fits = omega (arith, k .there, k .fits, c .before .before .before .before .before .before .before .before .before .before .before .before .before .before .before .before .before .before .before .before .before .before .before .before .before .before .before .before .before .before .before .before .before .before .before .before .before .before .pre .1 .1 .1 .2) }
+  abbrev both-taken : Here lts.After-y → Here lts.After-take-over3
+  both-taken c = right-taken (c .before .before)
 
--- src/rows.rt:167:53
-take-over-cast-intern-3 : (t : ℕ) → take-over-lts.Need-cast-intern-3 (
-  row-at-reads.Asked,
-  row-at-reads.Learnt,
-  intern-reads.Asked,
-  intern-reads.Learnt,
-  take-over-below t,
-  take-over.Post,
-) (take-over-at t) take-over.Post
-take-over-cast-intern-3 t c = let k = (took _ _ _ _ _ (c .before .before .before .before .y .given .1) (c .before .before .before .before .before .before .before .before .before .before .before .before .take-over2 .ensures)) in record { fits = omega (arith, k .there, k .fits, c .before .before .before .before .before .before .before .before .before .before .before .before .before .before .before .before .before .before .before .before .before .before .before .before .before .before .before .before .before .before .before .before .before .before .before .before .before .before .pre .1 .1 .1 .2) }
+  abbrev first-of : Here lts.After-take-over3 → Here lts.After-take-over2
+  first-of c = left-taken (left-of c .before .before)
 
--- src/rows.rt:167:5
-take-over-intern-requires-3 : (t : ℕ) → take-over-lts.Need-intern-requires-3 (
-  row-at-reads.Asked,
-  row-at-reads.Learnt,
-  intern-reads.Asked,
-  intern-reads.Learnt,
-  take-over-below t,
-  take-over.Post,
-) (take-over-at t) take-over.Post
-take-over-intern-requires-3 t c κs =
-    let k = (took _ _ _ _ _ (c .before .before .before .before .before .before .before .before .before .before .before .before .before .before .before .before .before .before .x .given .1) (c .before .before .before .before .before .before .before .before .before .before .before .before .before .before .before .before .before .before .before .before .before .before .before .before .before .before .take-over .ensures)) in
-    let l = (took _ _ _ _ _ (c .before .before .before .before .y .given .1) (c .before .before .before .before .before .before .before .before .before .before .before .before .take-over2 .ensures)) in (
-      l .brought .grown .rows,
-      (
-        (l .fits, omega (arith, c .before .before .before .before .before .before .before .before .before .before .before .before .take-over2 .kept .1 .1 .1 .1 .0, c .before .before .before .before .before .before .before .before .before .before .before .before .before .before .before .before .before .before .before .before .before .before .before .before .before .before .take-over .kept .1 .1 .1 .1 .0, c .before .before .before .before .before .before .before .before .before .before .before .before .before .before .before .before .before .before .before .before .before .before .before .before .before .before .before .before .before .before .before .before .before .before .before .before .before .before .pre .1 .1 .1 .1)),
-        sign-sound _ _ _ _ (c .before .before .before .before .before .before .before .before .before .before .before .before .before .before .before .before .before .before .before .before .before .before .before .before .before .before .before .before .before .before .if1 .left) (omega (arith, c .before .before .before .before .before .before .before .before .before .before .before .before .before .before .before .before .if2 .left, sound-kind (sound-read (c .before .before .before .before .before .before .before .before .before .before .before .before .before .before .before .before .before .before .before .before .before .before .before .before .before .before .before .before .before .before .before .before .before .before .before .before .before .before .pre .1 .0) (c .before .before .before .before .before .before .before .before .before .before .before .before .before .before .before .before .before .before .before .before .before .before .before .before .before .before .before .before .before .before .before .row-at .ensures)))) (lt-of-lt-of-le (k .there) (l .brought .grown .more)) (l .there),
-      ),
-    )
+  abbrev pair-told : Here lts.After-intern-arg9 → Here lts.After-pair
+  pair-told c = c .before .before .before
 
--- src/rows.rt:112:1
-take-over-same-length-13 : (t : ℕ) → take-over-lts.Need-same-length-13 (
-  row-at-reads.Asked,
-  row-at-reads.Learnt,
-  intern-reads.Asked,
-  intern-reads.Learnt,
-  take-over-below t,
-  take-over.Post,
-) (take-over-at t) take-over.Post
-take-over-same-length-13 t c = search needs
+  abbrev pair-home : Here lts.After-slice-known21 → Here lts.After-left6
+  pair-home c = c .before .before .before
 
--- src/rows.rt:112:1
-take-over-same-length-14 : (t : ℕ) → take-over-lts.Need-same-length-14 (
-  row-at-reads.Asked,
-  row-at-reads.Learnt,
-  intern-reads.Asked,
-  intern-reads.Learnt,
-  take-over-below t,
-  take-over.Post,
-) (take-over-at t) take-over.Post
-take-over-same-length-14 t c = search needs
+  abbrev pair-made : Here lts.After-slice-known21 → Here lts.After-intern3
+  pair-made c = pair-home c .before .before .before
 
--- src/rows.rt:112:1
-take-over-same-length-15 : (t : ℕ) → take-over-lts.Need-same-length-15 (
-  row-at-reads.Asked,
-  row-at-reads.Learnt,
-  intern-reads.Asked,
-  intern-reads.Learnt,
-  take-over-below t,
-  take-over.Post,
-) (take-over-at t) take-over.Post
-take-over-same-length-15 t c = search needs
+  -- ---- The needs of a leaf
 
--- src/rows.rt:112:1
-take-over-returns-5 : (t : ℕ) → take-over-lts.Need-returns-5 (
-  row-at-reads.Asked,
-  row-at-reads.Learnt,
-  intern-reads.Asked,
-  intern-reads.Learnt,
-  take-over-below t,
-  take-over.Post,
-) (take-over-at t) take-over.Post
-take-over-returns-5 t c =
-    let k = (took _ _ _ _ _ (c .before .before .before .before .before .before .before .before .before .before .before .before .before .before .before .before .before .before .before .before .before .before .before .before .before .x .given .1) (c .before .before .before .before .before .before .before .before .before .before .before .before .before .before .before .before .before .before .before .before .before .before .before .before .before .before .before .before .before .before .before .before .before .take-over .ensures)) in
-    let l = (took _ _ _ _ _ (c .before .before .before .before .before .before .before .before .before .before .before .y .given .1) (c .before .before .before .before .before .before .before .before .before .before .before .before .before .before .before .before .before .before .before .take-over2 .ensures)) in
-    takes-row _ _ (c .before .before .before .before .before .before .before .before .before .before .before .before .before .before .before .before .before .before .before .before .before .before .before .before .before .before .before .before .before .before .before .before .before .before .before .before .before .before .before .before .before .before .before .before .before .args .room) _ (c .before .before .before .before .before .before .intern3 .result) _
-    (brought-then (brought-child _ (k .brought) (parts-of-left (c .before .before .before .before .before .before .before .before .before .before .before .before .before .before .before .before .before .before .before .before .before .before .before .before .before .before .before .before .before .before .before .before .before .before .before .before .before .before .before .before .before .before .before .before .before .pre .1 .0) (c .before .before .before .before .before .before .before .before .before .before .before .before .before .before .before .before .before .before .before .before .before .before .before .before .before .before .before .before .before .before .before .before .before .before .before .before .before .before .row-at .ensures) (c .before .before .before .before .before .before .before .before .before .before .before .before .before .before .before .before .before .before .before .before .before .before .before .before .before .before .before .before .before .before .before .before .before .before .before .before .before .if1 .left))) (brought-child _ (l .brought) (parts-of-right (c .before .before .before .before .before .before .before .before .before .before .before .before .before .before .before .before .before .before .before .before .before .before .before .before .before .before .before .before .before .before .before .before .before .before .before .before .before .before .before .before .before .before .before .before .before .pre .1 .0) (c .before .before .before .before .before .before .before .before .before .before .before .before .before .before .before .before .before .before .before .before .before .before .before .before .before .before .before .before .before .before .before .before .before .before .before .before .before .before .row-at .ensures) (c .before .before .before .before .before .before .before .before .before .before .before .before .before .before .before .before .before .before .before .before .before .before .before .before .before .before .before .before .before .before .before .before .before .before .before .before .before .if1 .left) (c .before .before .before .before .before .before .before .before .before .before .before .before .before .before .before .before .before .before .before .before .before .before .before .if2 .left))))
-    (sign-joined (c .before .before .before .before .before .before .before .before .before .before .before .before .before .before .before .before .before .before .before .before .before .before .before .before .before .before .before .before .before .before .before .before .before .before .before .before .before .before .before .before .before .before .before .before .before .pre .1 .0) (c .before .before .before .before .before .before .before .before .before .before .before .before .before .before .before .before .before .before .before .before .before .before .before .before .before .before .before .before .before .before .before .before .before .before .before .before .before .before .row-at .ensures) (c .before .before .before .before .before .before .before .before .before .before .before .before .before .before .before .before .before .before .before .before .before .before .before .before .before .before .before .before .before .before .before .before .before .before .before .before .before .if1 .left) (c .before .before .before .before .before .before .before .before .before .before .before .before .before .before .before .before .before .before .before .before .before .before .before .if2 .left) k l) (c .before .before .before .before .before .before .intern3 .ensures)
+  row-at-requires : Here lts.Need-row-at-requires
+  row-at-requires c κs = let s = given (lent c) .pre .1 .0 in (s .in-kind, s .in-left, s .in-right)
 
+  intern-requires : Here lts.Need-intern-requires
+  intern-requires c κs =
+      let told = leaf-told c in
+      let row = told .before .before in
+      (entry row .pre .1 .1, leaf-read (read row) (told .enum-told .given .1) _)
+
+  returns : Here lts.Need-returns
+  returns c =
+      let made = leaf-made c in
+      let told = leaf-told (made .before) in
+      let row = told .before .before in
+      takes-leaf (read row) (told .enum-told .given .1) (entry row .pre .1 .1) (made .intern .ensures)
+
+  -- ---- The needs of a star
+
+  take-over-requires : Here lts.Need-take-over-requires
+  take-over-requires c κs =
+      let told = child-told c .before in
+      let row = told .before .before in
+      let p = star-read (read row) (told .child .given .1) in
+      let s = entry row .pre in
+      (omega (arith, p .0, s .0), (sound-to-less (s .1 .0) (p .0), s .1 .1))
+
+  cast-t41 : Here lts.Need-cast-t41
+  cast-t41 c =
+      let told = c .before in
+      let call = child-taken (told .before .before) in
+      let row = child-of call .before .before in
+      record { fits = omega (arith, named-small (entry row .pre .1 .1) (took (told .x .given .1) (call .take-over .ensures))) }
+
+  intern-requires-2 : Here lts.Need-intern-requires-2
+  intern-requires-2 c κs =
+      let told = star-told c .before in
+      let call = child-taken (told .before .before) in
+      let row = child-of call .before .before in
+      let k = took (told .x .given .1) (call .take-over .ensures) in
+      (fitted-then (entry row .pre .1 .1) (k .came) (call .take-over .kept .1 .1 .1 .1 .0), of-star _ (k .there) refl)
+
+  returns-2 : Here lts.Need-returns-2
+  returns-2 c =
+      let made = star-made c in
+      let told = star-told (made .before) .before in
+      let call = child-taken (told .before .before) in
+      let child = child-of call in
+      takes-star (read (child .before .before)) (child .child .given .1) (took (told .x .given .1) (call .take-over .ensures)) (made .intern2 .ensures)
+
+  returns-3 : Here lts.Need-returns-3
+  returns-3 c =
+      let call = child-taken (c .before .before) in
+      let child = child-of call in
+      star-full (read (child .before .before)) (child .child .given .1) (c .enum-told2 .given .1) (call .take-over .ensures)
+
+  -- ---- The needs of a sign
+
+  take-over-requires-2 : Here lts.Need-take-over-requires-2
+  take-over-requires-2 c κs =
+      let told = two-told c .before in
+      let row = told .before .before in
+      let p = sign-read (read row) (told .l .given .1) in
+      let s = entry row .pre in
+      (omega (arith, p .1, s .0), (sound-to-less (s .1 .0) (p .1), s .1 .1))
+
+  take-over-requires-3 : Here lts.Need-take-over-requires-3
+  take-over-requires-3 c κs =
+      let told = right-asked c .before in
+      let call = left-taken (told .before .before) in
+      let two = two-of call in
+      let row = two .before .before in
+      let p = sign-read (read row) (two .l .given .1) in
+      let s = entry row .pre in
+      let k = took (told .x2 .given .1) (call .take-over2 .ensures) in
+      (omega (arith, p .2, s .0), (sound-to-less (s .1 .0) (p .2), fitted-then (s .1 .1) (k .came) (call .take-over2 .kept .1 .1 .1 .1 .0)))
+
+  -- Both children are taken over.
+  pair-requires : Here lts.Need-pair-requires
+  pair-requires c κs =
+      let told = c .before in
+      let second = both-taken told in
+      let first = first-of second in
+      let f = entry (two-of first .before .before) .pre .1 .1 in
+      let a = took (left-of second .x2 .given .1) (first .take-over2 .ensures) in
+      let b = took (told .y .given .1) (second .take-over3 .ensures) in
+      (named-small f a, named-small (fitted-then f (a .came) (first .take-over2 .kept .1 .1 .1 .1 .0)) b)
+
+  intern-requires-3 : Here lts.Need-intern-requires-3
+  intern-requires-3 c κs =
+      let paired = pair-told c in
+      let told = paired .before .before in
+      let second = both-taken told in
+      let first = first-of second in
+      let two = two-of first in
+      let row = two .before .before in
+      let a = took (left-of second .x2 .given .1) (first .take-over2 .ensures) in
+      let b = took (told .y .given .1) (second .take-over3 .ensures) in
+      let f = fitted-then (entry row .pre .1 .1) (a .came) (first .take-over2 .kept .1 .1 .1 .1 .0) in
+      (fitted-then f (b .came) (second .take-over3 .kept .1 .1 .1 .1 .0), pair-sound (read row) (two .l .given .1) a b (paired .pair .ensures))
+
+  abbrev pair-of : Here lts.After-slice-known21 → Here lts.After-take-over3
+  pair-of c = both-taken (pair-told (pair-made c .before) .before .before)
+
+  same-length-10 : Here lts.Need-same-length-10
+  same-length-10 c = let d = pair-of c in pair-made c .intern3 .kept .0 ∙ d .take-over3 .kept .1 .1 .1 .1 .0 ∙ first-of d .take-over2 .kept .1 .1 .1 .1 .0
+
+  same-length-11 : Here lts.Need-same-length-11
+  same-length-11 c =
+      let d = pair-of c in
+      pair-made c .intern3 .kept .1 .0 ∙ d .take-over3 .kept .1 .1 .1 .1 .1 .0 ∙ first-of d .take-over2 .kept .1 .1 .1 .1 .1 .0
+
+  same-length-12 : Here lts.Need-same-length-12
+  same-length-12 c =
+      let d = pair-of c in
+      pair-made c .intern3 .kept .1 .1 .0 ∙ d .take-over3 .kept .1 .1 .1 .1 .1 .1 .0 ∙ first-of d .take-over2 .kept .1 .1 .1 .1 .1 .1 .0
+
+  returns-4 : Here lts.Need-returns-4
+  returns-4 c =
+      let made = pair-made c in
+      let paired = pair-told (made .before) in
+      let told = paired .before .before in
+      let second = both-taken told in
+      let first = first-of second in
+      let two = two-of first in
+      let a = took (left-of second .x2 .given .1) (first .take-over2 .ensures) in
+      let b = took (told .y .given .1) (second .take-over3 .ensures) in
+      takes-pair (read (two .before .before)) (two .l .given .1) a b (paired .pair .ensures) (made .intern3 .ensures)
+
+  returns-5 : Here lts.Need-returns-5
+  returns-5 c =
+      let second = right-taken (c .before .before) in
+      let first = first-of second in
+      let two = two-of first in
+      let a = took (left-of second .x2 .given .1) (first .take-over2 .ensures) in
+      right-full (read (two .before .before)) (two .l .given .1) a (c .enum-told3 .given .1) (second .take-over3 .ensures)
+
+  returns-6 : Here lts.Need-returns-6
+  returns-6 c =
+      let first = left-taken (c .before .before) in
+      let two = two-of first in
+      left-full (read (two .before .before)) (two .l .given .1) (c .enum-told4 .given .1) (first .take-over2 .ensures)
+
+-- Before each return stand the lengths of the three columns.
 pub +take-over-spec : {M : Type 1} → statement M
-+take-over-spec = close μ-take-over λ t. take-over-lts.spec (
-  row-at-reads.Asked,
-  row-at-reads.Learnt,
-  intern-reads.Asked,
-  intern-reads.Learnt,
-  take-over-below t,
-  take-over.Post,
-)
-    (take-over-at t)
-    take-over.Post
-    (take-over-row-at-requires t)
-    (take-over-intern-requires t)
-    (take-over-same-length t)
-    (take-over-same-length-2 t)
-    (take-over-same-length-3 t)
-    (take-over-returns t)
-    (take-over-cast-take-over t)
-    (take-over-take-over-requires t)
-    (take-over-enum-known-x t)
-    (take-over-enum-told t)
-    (take-over-same-length-4 t)
-    (take-over-same-length-5 t)
-    (take-over-same-length-6 t)
-    (take-over-returns-2 t)
-    (take-over-cast-intern t)
-    (take-over-intern-requires-2 t)
-    (take-over-same-length-7 t)
-    (take-over-same-length-8 t)
-    (take-over-same-length-9 t)
-    (take-over-returns-3 t)
-    (take-over-cast-take-over-2 t)
-    (take-over-take-over-requires-2 t)
-    (take-over-enum-known-y t)
-    (take-over-enum-told-2 t)
-    (take-over-same-length-10 t)
-    (take-over-same-length-11 t)
-    (take-over-same-length-12 t)
-    (take-over-returns-4 t)
-    (take-over-cast-intern-2 t)
-    (take-over-cast-intern-3 t)
-    (take-over-intern-requires-3 t)
-    (take-over-same-length-13 t)
-    (take-over-same-length-14 t)
-    (take-over-same-length-15 t)
-    (take-over-returns-5 t)
++take-over-spec = close μ-over λ t. lts.spec (claims t) (at t) over.Post
+    (row-at-requires t) (λ c κs. search needs)
+    (λ c. search needs) (intern-requires t)
+    (λ c. search needs) (take-over-requires t) (λ c. search needs) (cast-t41 t) (intern-requires-2 t) (λ c. search needs)
+    (λ c. search needs) (take-over-requires-2 t) (λ c. search needs) (take-over-requires-3 t)
+    (λ c. search needs) (pair-requires t) (intern-requires-3 t) (λ c. search needs) (λ c. search needs)
+    (λ c. search needs) (λ c. search needs) (λ c. search needs) (returns t)
+    (λ c. search needs) (λ c. search needs) (λ c. search needs) (returns-2 t)
+    (λ c. search needs) (λ c. search needs) (λ c. search needs) (returns-3 t)
+    (same-length-10 t) (same-length-11 t) (same-length-12 t) (returns-4 t)
+    (λ c. search needs) (λ c. search needs) (λ c. search needs) (returns-5 t)
+    (λ c. search needs) (λ c. search needs) (λ c. search needs) (returns-6 t)

@@ -1,34 +1,42 @@
--- `derive::walk::lower_place` gives the place in the child's list that the join takes to a place in the side's.
+-- `lower_place` gives the place in the child's list that the join takes to a place in the side's.
 use borrow.Author.Needs.{needs}
-use mathlib.Core.Path.{sym, ap, _∙_, subst}
-use Rattle.derive.specs.Walk.{Place-within, behind-lowered}
-use Rattle.derive.proofs.Placing.{start-lowered, place-lowered}
+use mathlib.Core.Path.{subst}
+use Rattle.derive.specs.Walk.{Place-within}
 use Rattle.derive.proofs.walk.lower_place.Statement.{statement}
 use Rattle.derive.proofs.walk.lower_place.Tie as tie
 
-enum-known-place : tie.Need-enum-known-place
-enum-known-place c = search needs
+-- ---- The places: the entry, and the place told
 
-enum-told : tie.Need-enum-told
-enum-told c = search needs
+abbrev entry : tie.At-match-keys1 → tie.After-shared-slice-known
+entry c = c .before .before .before
 
-returns : tie.Need-returns
-returns c = start-lowered _ _ _ _ (c .enum-told .given .1)
+abbrev told : tie.After-lower → tie.After-place
+told c = c .before .before
+
+-- ---- The needs
 
 lower-requires : tie.Need-lower-requires
-lower-requires c κs = subst (Place-within _) (c .before .place .given .1) (c .before .before .before .before .before .before .pre)
-
-enum-known-m : tie.Need-enum-known-m
-enum-known-m c = search needs
-
-enum-told-2 : tie.Need-enum-told-2
-enum-told-2 c = search needs
+lower-requires c κs = let p = c .before in subst (Place-within _) (p .place .given .1) (entry (p .before) .before .pre)
 
 returns-2 : tie.Need-returns-2
-returns-2 c = sym (ap behind-lowered (c .enum-told2 .given .1)) ∙ place-lowered _ _ _ _ (c .before .before .before .before .place .given .1) (c .before .before .lower .ensures)
+returns-2 c =
+    let low = c .before .before in
+    rw (told low .place .given .1, ← low .lower .ensures, c .enum-told2 .given .1)
 
 returns-3 : tie.Need-returns-3
-returns-3 c = sym (ap behind-lowered (c .before .m .given .1)) ∙ place-lowered _ _ _ _ (c .before .before .before .before .before .place .given .1) (c .before .before .before .lower .ensures)
+returns-3 c =
+    let low = c .before .before .before in
+    rw (told low .place .given .1, ← low .lower .ensures, c .before .m .given .1)
 
 pub lower-place-spec : {M : Type 1} → statement M
-lower-place-spec = tie.close (tie.spec enum-known-place enum-told returns lower-requires enum-known-m enum-told-2 returns-2 returns-3)
+lower-place-spec =
+    tie.close
+    (tie.spec
+    (λ c. search needs)
+    (λ c. search needs)
+    (λ c. search needs)
+    lower-requires
+    (λ c. search needs)
+    (λ c. search needs)
+    returns-2
+    returns-3)
