@@ -65,7 +65,7 @@ parts-held t (suc n) sound x z m p =
 expressions-held : (e : Expression) (t : Table) (n : ℕ) (column : List ℕ) → Rows t n → Names t n column (states e) → Within (expressions e) (trees t n)
 unfolding expressions
 expressions-held e t n column r names z m =
-    ⊎-elim (λ q. subst (λ y. List·Memᴰ y (trees t n)) (r .literal ∙ sym q) (to-trees t n 0 (r .some)))
+    ⊎-elim (λ q. subst (λ y. List·Memᴰ y (trees t n)) (r .literal ∙ sym q) (to-trees t n 0 (r .nonempty)))
     (λ k.
     let (x, s, p) = flatMap-of parts (states e) k in
     let i = place same x (states e) in

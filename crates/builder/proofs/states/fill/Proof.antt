@@ -164,7 +164,8 @@ loop-holds c =
 step-requires : tie.Need-step-requires Inv-loop μ-loop
 step-requires c κs =
     let m = c .before .before .before .loop .inv .0 in
-    (m .progress .rows, ((m .roomy .rows-fit, m .roomy .rows-in, m .roomy .rows-small, m .row-in), m .standing))
+    let room = m .roomy in
+    (record { rows = m .progress .rows; fits = room .rows-fit; in-columns = room .rows-in; small = room .rows-small }, (m .row-in, m .standing))
 
 enum-known-row : tie.Need-enum-known-row Inv-loop μ-loop
 enum-known-row c = search needs

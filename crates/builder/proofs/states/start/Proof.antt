@@ -46,8 +46,15 @@ take-over-requires c κs =
     let room = c .before .before .before in
     let (fine, h) = entry room .pre in
     let some = given-some _ fine in
-    let left = rowed room .if1 .left in
-    (given-sound _ fine _ (omega arith), (first-rows h (omega arith), (omega arith, simp length-set (h .rows-in), h .rows-small)))
+    let left = rowed room .if1 .left in (
+      given-sound _ fine _ (omega arith),
+      record {
+        rows = first-rows h (omega arith);
+        fits = omega arith;
+        in-columns = simp length-set (h .rows-in);
+        small = h .rows-small;
+      },
+    )
 
 enum-known-row : tie.Need-enum-known-row
 enum-known-row c = search needs
@@ -69,13 +76,13 @@ returns-3 c =
     let take = taken (c .before .before) in
     let room = roomy take in
     let (fine, h) = entry room .pre in
-    start-short h (omega (arith, rowed room .if1 .left)) _ _ (given-root _ fine) (took-not _ _ _ _ _ (c .enum-told .given .1) (take .take-over .ensures))
+    start-short h (omega (arith, rowed room .if1 .left)) _ _ (given-root _ fine) (took-not (c .enum-told .given .1) (take .take-over .ensures))
 
 cast-expression : tie.Need-cast-expression
 cast-expression c =
     let take = taken (c .before .before .before) in
-    let k = took _ _ _ _ _ (c .before .row .given .1) (take .take-over .ensures) in
-    record { fits = omega (arith, k .there, k .fits, entry (roomy take) .pre .1 .rows-small) }
+    let k = took (c .before .row .given .1) (take .take-over .ensures) in
+    record { fits = omega (arith, k .there, k .came .fits, entry (roomy take) .pre .1 .rows-small) }
 
 slice-write-expression : tie.Need-slice-write-expression
 slice-write-expression c = search needs
@@ -83,14 +90,16 @@ slice-write-expression c = search needs
 empty-word-requires : tie.Need-empty-word-requires
 empty-word-requires c κs =
     let row = c .before .before .before .before in
-    let k = took _ _ _ _ _ (row .row .given .1) (taken (row .before .before) .take-over .ensures) in
-    row-sound (k .brought .grown .rows) (k .there)
+    let k = took (row .row .given .1) (taken (row .before .before) .take-over .ensures) in
+    row-sound (k .came .grown .rows) (k .there)
 
 flag-requires : tie.Need-flag-requires
 flag-requires c κs = search needs
 
 slice-write-accepting : tie.Need-slice-write-accepting
-slice-write-accepting c = search needs
+slice-write-accepting c =
+    let room = roomy (taken (named c .before .before)) in
+    omega (arith, room .if2 .left, entry room .pre .1 .accepting-in)
 
 same-length-4 : tie.Need-same-length-4
 same-length-4 c = taken (named c .before .before) .take-over .kept .1 .1 .1 .1 .0 ∙ simp length-set
@@ -114,7 +123,7 @@ returns-4 c =
     let room = roomy take in
     let (fine, h) = entry room .pre in
     start-stands h (omega (arith, rowed room .if1 .left)) _ _ (given-root _ fine) _ _ _ _ (omega (arith, room .if2 .left))
-    (took _ _ _ _ _ (row .row .given .1) (take .take-over .ensures)) (c .flag .ensures ∙ ap (λ (y : Bool). cond y 1 0) (c .before .empty-word .ensures))
+    (took (row .row .given .1) (take .take-over .ensures)) (c .flag .ensures ∙ ap (λ (y : Bool). cond y 1 0) (c .before .empty-word .ensures))
 
 pub start-spec : {M : Type 1} → statement M
 start-spec =
