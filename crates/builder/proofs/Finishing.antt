@@ -69,7 +69,7 @@ expressions-held : (e : Expression) (t : Table) (n : ℕ) (column : List ℕ) �
 expressions-held e t n column r names z m = held ((counted e .expressions z) .0 m)
   where
     held : Tree e z → List·Memᴰ z (trees t n)
-    held (empty q) = subst (λ y. List·Memᴰ y (trees t n)) (r .literal ∙ sym q) (to-trees t n 0 (r .some))
+    held (empty q) = subst (λ y. List·Memᴰ y (trees t n)) (r .literal ∙ sym q) (to-trees t n 0 (r .nonempty))
     held (part {s = x} s p) =
         let i = place same x (states e) in
         let l = place-below same x (states e) s in

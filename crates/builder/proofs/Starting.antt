@@ -9,15 +9,14 @@ use mathlib.Core.Bool.{cond}
 use mathlib.Core.List.{List, [], _∷_, map, List·Memᴰ, List·Memᴰ·head, List·Memᴰ·eq-of-singleton, List·Memᴰ·not-nil, Memᴰ·cast}
 use lib.ListN.{length, getD, set, length-set}
 use lib.Seq.{getD-set-same, getD-set-other}
-use Rattle.theory.specs.Expression.{Expression, ε, same, parts}
+use Rattle.theory.specs.Expression.{Expression, ε, parts}
 use Rattle.theory.specs.Distinct.{distinct, without}
 use Rattle.theory.specs.Derivative.{empty-word}
 use Rattle.theory.specs.Automaton.{states, expressions}
 use Rattle.theory.specs.Column.{zeros, filled}
 use Rattle.theory.specs.Table.{Table, table, row, entry, of-ε, trees, tree, tree-at, size, table-refusal}
 use Rattle.theory.specs.Build.{Lent, lent, Names}
-use Rattle.theory.proofs.Distinct.{no-longer}
-use Rattle.theory.proofs.KindOf.{tree-ε}
+use Rattle.theory.proofs.Rooted.{tree-ε}
 use Rattle.theory.proofs.Sound.{faultless-sound}
 use Rattle.theory.proofs.WellFormed.{well-formed, tree-last}
 use Rattle.theory.proofs.States.{states-some, states-first}
@@ -26,6 +25,7 @@ use Rattle.theory.specs.Meetings.{so-far}
 use Rattle.theory.specs.Arcs.{ArcColumns, arc-columns, no-arcs, filled-arcs}
 use Rattle.theory.proofs.Column.{getD-zeros, zero-filled, column-more}
 use Rattle.derive.specs.Rows.{Rows, Short, SoundTo}
+use Rattle.derive.proofs.Coming.{short-exceeds}
 use Rattle.derive.proofs.Taking.{Took}
 use Rattle.builder.specs.Progress.{Progress, Exceeds, Begins, Blank, Standing, Started}
 use Rattle.builder.specs.declared.arcs.Counts.{Counts}
@@ -60,7 +60,7 @@ module _ {rooms : Counts} {t : Table} {expression accepting : List ℕ} (h : Beg
     space = lt-of-lt-of-le some (h .rows-in)
 
     ε-tree : tree-at with-ε 0 ≡ ε
-    ε-tree = tree-ε with-ε 0 (ap (λ w. w .kind) (ε-row space))
+    ε-tree = tree-ε with-ε 0 (ε-row space)
 
     pub ε-only : {z : Expression} → List·Memᴰ z (trees with-ε 1) → z ≡ ε
     unfolding trees tree-at
@@ -75,7 +75,7 @@ module _ {rooms : Counts} {t : Table} {expression accepting : List ℕ} (h : Beg
           within = simp length-set (space);
           sound = λ i l. of-ε (ap (row with-ε) (only i l) ∙ ε-row space);
           once = (List·Memᴰ·not-nil, tt);
-          some = le-refl 1;
+          nonempty = le-refl 1;
           literal = ε-tree;
           blank = blank-row;
         }
@@ -88,19 +88,17 @@ module _ {rooms : Counts} {t : Table} {expression accepting : List ℕ} (h : Beg
     all-needed e {z} = ⊎-elim (λ m. Memᴰ·cast (ε-only m) (ε-needed e)) (λ m. parts-needed e e (root-state e) z m)
 
     -- The tree taken over, x, is the given expression e.
-    pub start-short : (e x : Expression) → e ≡ x → Short (rooms .rows) (λ z. List·Memᴰ z (trees with-ε 1) ⊎ List·Memᴰ z (parts x)) → Exceeds e rooms
-    start-short e x q s =
-        subst (λ y. Exceeds y rooms) (sym q)
-        (inl (lt-of-lt-of-le (s .over) (no-longer same (s .all) (expressions x) (s .once) (λ z m. all-needed x (s .each z m)))))
+    pub start-short : (e x : Expression) → e ≡ x → {t′ : Table} → Short with-ε 1 (rooms .rows) (λ z. List·Memᴰ z (parts x)) t′ → Exceeds e rooms
+    start-short e x q s = subst (λ y. Exceeds y rooms) (sym q) (inl (short-exceeds s (expressions x) (λ z. all-needed x)))
 
-    pub start-stands : (e x : Expression) → e ≡ x → (r n b : ℕ) (t′ : Table) → 0 < rooms .states → Took with-ε 1 (rooms .rows) x r n t′
+    pub start-stands : (e x : Expression) → e ≡ x → (r n b : ℕ) (t′ : Table) → 0 < rooms .states → Took with-ε 1 (rooms .rows) x r t′ n
         → b ≡ cond (empty-word (tree-at t′ r)) 1 0 → Standing e rooms (record { rows = n; states = 1; arcs = 0 }) t′ (set expression 0 r) (set accepting 0 b)
     start-stands e x q r n b t′ room k flag =
         subst (λ y. Standing y rooms (record { rows = n; states = 1; arcs = 0 }) t′ (set expression 0 r) (set accepting 0 b)) (sym q)
         (record {
-          rows = k .brought .grown .rows;
-          needed = λ z m. all-needed x (k .brought .each z m);
-          rows-fit = k .fits;
+          rows = k .came .grown .rows;
+          needed = λ z m. all-needed x (k .came .each z m);
+          rows-fit = k .came .fits;
           one-state = refl;
           no-arc = refl;
           named = names-more expression [] 0 r x none refl (lt-of-lt-of-le room (h .states-in)) (k .there) (k .is);

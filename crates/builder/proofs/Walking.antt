@@ -3,28 +3,28 @@ use Prim.Native.Nat.{ℕ, suc, _-_, _≤_, _<_}
 use native.Mathlib.Nat.{lt-of-lt-of-le, le-trans, le-of-eq}
 use native.Mathlib.Omega.{arith}
 use mathlib.Core.Path.{_≡_, refl, sym, ap, ap₂, _∙_, subst}
-use mathlib.Core.Logic.{inl, ⊎-elim}
+use mathlib.Core.Logic.{_⊎_, inl, ⊎-elim}
 use mathlib.Core.List.{List, [], _∷_, _++_, map, map-append, append-assoc, append-nil, List·Memᴰ, List·Memᴰ·head, Memᴰ·cast, Memᴰ·append-right, List·Memᴰ·cases-cons, List·Memᴰ·not-nil}
 use lib.ListN.{length, getD, take, length-append, List·getD-append}
 use lib.Seq.{take-append-seam}
-use Rattle.theory.specs.Expression.{Expression, ∅, same, parts}
+use Rattle.theory.specs.Expression.{Expression, ∅, parts}
 use Rattle.theory.specs.Distinct.{distinct, NoRepeats, Within}
 use Rattle.theory.specs.Derivative.{derivative}
 use Rattle.theory.specs.Automaton.{states, expressions}
 use Rattle.theory.specs.Table.{Table, trees, tree-at}
 use Rattle.theory.specs.Build.{Lent, lent}
-use Rattle.theory.proofs.Distinct.{no-longer}
 use Rattle.theory.proofs.Derivative.{derivative-no-repeats}
 use Rattle.theory.proofs.Accepts.Arcs.{alphabet-iff, member-state}
 use Rattle.theory.specs.Limit.{last-letter}
 use Rattle.theory.specs.Meetings.{Meeting, meeting, meetings, before, Starts, so-far}
 use Rattle.theory.proofs.Meetings.{so-far-begins, before-letter}
 use Rattle.theory.proofs.Nearing.{starts-before, starts-member, states-begin, parts-needed}
-use Rattle.derive.specs.Rows.{Grown, Needed, Short}
-use Rattle.derive.specs.Walk.{to-come, In-list, Steps, first-of, behind}
+use Rattle.derive.specs.Rows.{Grown, Short}
+use Rattle.derive.specs.Walk.{Part-of, to-come, In-list, Steps, first-of, behind}
 use Rattle.derive.specs.declared.walk.Stepped.the-variants.{Found, End}
 use Rattle.derive.specs.declared.walk.Place.{Place}
 use Rattle.derive.specs.declared.walk.Place.the-variants.{Start, Behind}
+use Rattle.derive.proofs.Coming.{short-exceeds}
 use Rattle.derive.proofs.Growing.{grown-tree}
 use Rattle.derive.proofs.Listing.{first-some, first-none, behind-second, behind-head}
 use Rattle.builder.specs.Progress.{Progress, Roomy, Exceeds, Ready, Meets, Met, met-so-far, next-met, root}
@@ -169,20 +169,21 @@ module _ {e : Expression} {i a r : ℕ} {rooms : Counts} {place : Place} {c : Le
   member-needed : (y : Expression) → List·Memᴰ y (derivative a (getD (states e) i ∅)) → Within (parts y) (expressions e)
   member-needed y h = parts-needed e y (member-state e i (m .within) a ((alphabet-iff a) .1 (m .low, m .high)) y h)
 
-  all-needed : (z : Expression) → Needed (c .rows) (k .rows) (derivative a (tree-at (c .rows) r)) z → List·Memᴰ z (expressions e)
+  all-needed : (z : Expression) → List·Memᴰ z (trees (c .rows) (k .rows)) ⊎ Part-of (derivative a (tree-at (c .rows) r)) z
+      → List·Memᴰ z (expressions e)
   all-needed z = ⊎-elim (m .progress .needed z) (λ q. member-needed (q .0) (subst (List·Memᴰ (q .0)) list-is (q .1)) z (q .2))
 
-  pub member-short : Short (rooms .rows) (Needed (c .rows) (k .rows) (derivative a (tree-at (c .rows) r))) → Exceeds e rooms
-  member-short s = inl (lt-of-lt-of-le (s .over) (no-longer same (s .all) (expressions e) (s .once) (λ z h. all-needed z (s .each z h))))
+  pub member-short : {t : Table} → Short (c .rows) (k .rows) (rooms .rows) (Part-of (derivative a (tree-at (c .rows) r))) t → Exceeds e rooms
+  member-short s = inl (short-exceeds s (expressions e) all-needed)
 
   -- A row comes, or stands already, that is the next member.
   module _ {row n : ℕ} {t : Table} (same-length : length (t .kind) ≡ length (c .rows .kind))
       (s : Steps (c .rows) (k .rows) (rooms .rows) (derivative a (tree-at (c .rows) r)) place (Found row n) t) where
     grown : Progress e (met-at e i a (m .met)) (with-rows c t) (with-count k n)
-    grown = progress-grown (m .progress) (s .outcome .0) (λ z h. all-needed z (s .outcome .4 z h))
+    grown = progress-grown (m .progress) (s .outcome .came .grown) (λ z h. all-needed z (s .outcome .came .each z h))
 
     next-of : (ys : List Expression) × (m .rest ≡ tree-at t row ∷ ys)
-    next-of = first-some (m .rest) (ap first-of (sym (m .coming)) ∙ s .outcome .3)
+    next-of = first-some (m .rest) (ap first-of (sym (m .coming)) ∙ s .outcome .is)
 
     met-next : derivative a (getD (states e) i ∅) ≡ (m .met ++ (tree-at t row ∷ [])) ++ next-of .0
     met-next = m .split ∙ ap (λ xs. m .met ++ xs) (next-of .1) ∙ sym (append-assoc (m .met) (tree-at t row ∷ []) (next-of .0))
@@ -205,13 +206,13 @@ module _ {e : Expression} {i a r : ℕ} {rooms : Counts} {place : Place} {c : Le
         (ap₂ (λ (j : ℕ) y. take j (meetings y)) (grown .arc-count) (root-is grown) ∙ starts-take starts-here)
 
     pub found-ready : Ready (with-rows c t) rooms (with-count k n)
-    found-ready = to-ready starts-here grown (roomy-grown (m .roomy) (s .outcome .0) (s .outcome .1) same-length)
+    found-ready = to-ready starts-here grown (roomy-grown (m .roomy) (s .outcome .came .grown) (s .outcome .came .fits) same-length)
 
     pub found-meets : Meets (with-rows c t) (with-count k n) i a row
     found-meets =
         record {
           state = m .state;
-          row = s .outcome .2;
+          row = s .outcome .there;
           next = subst (λ y. Starts y (next-met (with-rows c t) (with-count k n) i a row)) (sym (root-is grown)) (subst (Starts e) (sym next-is) starts-next);
         }
 
@@ -227,13 +228,13 @@ module _ {e : Expression} {i a r : ℕ} {rooms : Counts} {place : Place} {c : Le
           (subst (λ y. Progress y (next-met (with-rows c t) (with-count k n) i a row) (with-rows c′ t) k′) (root-is grown) (w .goes .0))
 
       still : tree-at t r ≡ getD (states e) i ∅
-      still = grown-tree (s .outcome .0) (m .row-in) ∙ m .row-is
+      still = grown-tree (s .outcome .came .grown) (m .row-in) ∙ m .row-is
 
       list-still : derivative a (tree-at t r) ≡ m .met ++ (tree-at t row ∷ next-of .0)
       list-still = ap (derivative a) still ∙ m .split ∙ ap (λ xs. m .met ++ xs) (next-of .1)
 
       row-below : row < k′ .rows
-      row-below = subst (λ (j : ℕ). row < j) (sym (w .kept)) (s .outcome .2)
+      row-below = subst (λ (j : ℕ). row < j) (sym (w .kept)) (s .outcome .there)
 
       come : behind (tree-at t row) (derivative a (tree-at t r)) ≡ next-of .0
       come = behind-split (tree-at t row) (m .met) (next-of .0) (subst NoRepeats list-still (derivative-no-repeats a (tree-at t r))) list-still
@@ -250,7 +251,7 @@ module _ {e : Expression} {i a r : ℕ} {rooms : Counts} {place : Place} {c : Le
                 ∙ ap (λ xs. before e i (a - 1) ++ xs) (sym (map-append (meeting i a) (m .met) (tree-at t row ∷ []))))
                 after;
             roomy = w .goes .1;
-            row-in = subst (λ (j : ℕ). r < j) (sym (w .kept)) (lt-of-lt-of-le (m .row-in) (s .outcome .0 .more));
+            row-in = subst (λ (j : ℕ). r < j) (sym (w .kept)) (lt-of-lt-of-le (m .row-in) (s .outcome .came .grown .more));
             row-is = still;
             standing = (row-below, subst (List·Memᴰ (tree-at t row)) (sym list-still) (Memᴰ·append-right (m .met) (List·Memᴰ·head refl)));
             coming = come;
@@ -273,7 +274,7 @@ module _ {e : Expression} {i a r : ℕ} {rooms : Counts} {place : Place} {c : Le
       → Steps (c .rows) (k .rows) (rooms .rows) (derivative a (tree-at (c .rows) r)) place (End n) t
       → AtLetter e i a rooms (with-rows c t) (with-count k n)
   member-end {n} {t} same-length s =
-      let last : m .rest ≡ [] = first-none (m .rest) (ap first-of (sym (m .coming)) ∙ s .outcome .2) in
+      let last : m .rest ≡ [] = first-none (m .rest) (ap first-of (sym (m .coming)) ∙ s .outcome .nothing-left) in
       let all : derivative a (getD (states e) i ∅) ≡ m .met = m .split ∙ ap (λ xs. m .met ++ xs) last ∙ append-nil (m .met) in
       let whole : before e i a ≡ met-at e i a (m .met) =
       ap (before e i) (sym letter-is) ∙ before-letter e i (a - 1)
@@ -282,8 +283,8 @@ module _ {e : Expression} {i a r : ℕ} {rooms : Counts} {place : Place} {c : Le
       record {
         progress =
             subst (λ ms. Progress e ms (with-rows c t) (with-count k n)) (sym whole)
-            (progress-grown (m .progress) (s .outcome .0) (λ z h. all-needed z (s .outcome .3 z h)));
-        roomy = roomy-grown (m .roomy) (s .outcome .0) (s .outcome .1) same-length;
+            (progress-grown (m .progress) (s .outcome .came .grown) (λ z h. all-needed z (s .outcome .came .each z h)));
+        roomy = roomy-grown (m .roomy) (s .outcome .came .grown) (s .outcome .came .fits) same-length;
         state = m .state;
         within = m .within;
         high = m .high;

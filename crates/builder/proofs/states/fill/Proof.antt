@@ -203,7 +203,8 @@ loop-holds c =
 step-requires : tie.Need-step-requires Inv-loop μ-loop
 step-requires c κs =
     let m = c .before .before .before .loop .inv .0 in
-    (m .progress .rows, ((m .roomy .rows-fit, m .roomy .rows-in, m .roomy .rows-small, m .row-in), m .standing))
+    let room = m .roomy in
+    (record { rows = m .progress .rows; fits = room .rows-fit; in-columns = room .rows-in; small = room .rows-small }, (m .row-in, m .standing))
 
 meet-requires : tie.Need-meet-requires Inv-loop μ-loop
 meet-requires c κs =

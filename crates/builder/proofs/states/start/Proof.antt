@@ -58,27 +58,34 @@ take-over-requires c κs =
     let room = c .before .before .before in
     let (fine, h) = entry room .pre in
     let some = given-some _ fine in
-    let left = rowed room .if1 .left in
-    (given-sound _ fine _ (omega arith), (first-rows h (omega arith), (omega arith, simp length-set (h .rows-in), h .rows-small)))
+    let left = rowed room .if1 .left in (
+      given-sound _ fine _ (omega arith),
+      record {
+        rows = first-rows h (omega arith);
+        fits = omega arith;
+        in-columns = simp length-set (h .rows-in);
+        small = h .rows-small;
+      },
+    )
 
 no-rows-left : tie.Need-returns-3
 no-rows-left c =
     let take = taken (c .before .before) in
     let room = roomy take in
     let (fine, h) = entry room .pre in
-    start-short h (omega (arith, rowed room .if1 .left)) _ _ (given-root _ fine) (took-not _ _ _ _ _ (c .enum-told .given .1) (take .take-over .ensures))
+    start-short h (omega (arith, rowed room .if1 .left)) _ _ (given-root _ fine) (took-not (c .enum-told .given .1) (take .take-over .ensures))
 
 row-fits : tie.Need-cast-expression
 row-fits c =
     let take = taken (c .before .before .before) in
-    let k = took _ _ _ _ _ (c .before .row .given .1) (take .take-over .ensures) in
-    record { fits = omega (arith, k .there, k .fits, entry (roomy take) .pre .1 .rows-small) }
+    let k = took (c .before .row .given .1) (take .take-over .ensures) in
+    record { fits = omega (arith, k .there, k .came .fits, entry (roomy take) .pre .1 .rows-small) }
 
 row-there : tie.Need-empty-word-requires
 row-there c κs =
     let row = told c .before in
-    let k = took _ _ _ _ _ (row .row .given .1) (taken (row .before .before) .take-over .ensures) in
-    row-sound (k .brought .grown .rows) (k .there)
+    let k = took (row .row .given .1) (taken (row .before .before) .take-over .ensures) in
+    row-sound (k .came .grown .rows) (k .there)
 
 state-stands : tie.Need-returns-4
 state-stands c =
@@ -87,7 +94,7 @@ state-stands c =
     let room = roomy take in
     let (fine, h) = entry room .pre in
     start-stands h (omega (arith, rowed room .if1 .left)) _ _ (given-root _ fine) _ _ _ _ (omega (arith, room .if2 .left))
-    (took _ _ _ _ _ (row .row .given .1) (take .take-over .ensures)) (c .flag .ensures ∙ ap (λ (y : Bool). cond y 1 0) (c .before .empty-word .ensures))
+    (took (row .row .given .1) (take .take-over .ensures)) (c .flag .ensures ∙ ap (λ (y : Bool). cond y 1 0) (c .before .empty-word .ensures))
 
 pub start-spec : {M : Type 1} → statement M
 start-spec =
