@@ -96,11 +96,16 @@ state-stands c =
     start-stands h (omega (arith, rowed room .if1 .left)) _ _ (given-root _ fine) _ _ _ _ (omega (arith, room .if2 .left))
     (took (row .row .given .1) (take .take-over .ensures)) (c .flag .ensures ∙ ap (λ (y : Bool). cond y 1 0) (c .before .empty-word .ensures))
 
+flag-there : tie.Need-slice-write-accepting
+flag-there c =
+    let room = roomy (taken (named c .before .before)) in
+    omega (arith, room .if2 .left, entry room .pre .1 .accepting-in)
+
 pub start-spec : {M : Type 1} → statement M
 start-spec =
     tie.close
     (tie.spec no-row no-state (λ c. search needs) some-entry take-over-requires (λ c. search needs) (λ c. search needs)
     (λ c. taken (c .before .before) .take-over .kept .1 .1 .1 .1 .0 ∙ simp length-set) (λ c. search needs) (λ c. search needs) no-rows-left row-fits
-    (λ c. search needs) row-there (λ c κs. search needs) (λ c. search needs)
+    (λ c. search needs) row-there (λ c κs. search needs) flag-there
     (λ c. taken (named c .before .before) .take-over .kept .1 .1 .1 .1 .0 ∙ simp length-set) (λ c. search needs) (λ c. search needs) (λ c. search needs)
     (λ c. search needs) state-stands)
