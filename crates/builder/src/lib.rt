@@ -128,16 +128,10 @@ fn rooms(rows: usize, states: usize, arcs: usize) -> Counts
     ensures { λ r. ⌜ r ≡ record { rows = min rows most-expressions; states = min states most-states; arcs = min arcs most-arcs } ⌝ }
 {
     Counts {
-        rows: smaller(rows, theory::limit::EXPRESSIONS),
-        states: smaller(states, theory::limit::STATES),
-        arcs: smaller(arcs, theory::limit::ARCS),
+        rows: columns::smaller(rows, theory::limit::EXPRESSIONS),
+        states: columns::smaller(states, theory::limit::STATES),
+        arcs: columns::smaller(arcs, theory::limit::ARCS),
     }
-}
-
-fn smaller(a: usize, b: usize) -> usize
-    ensures { λ r. ⌜ r ≡ min a b ⌝ }
-{
-    if a < b { a } else { b }
 }
 
 // 01: "sets all lent output and work columns to zero".
@@ -158,18 +152,8 @@ fn clear(
         (lent (table (now (xkind .exit)) (now (xleft .exit)) (now (xright .exit))) (now (expression .exit)) (now (accepting .exit))
         (arc-columns (now (from .exit)) (now (letter .exit)) (now (to .exit)))) ⌝ }
 {
-    clear_rows(xkind, xleft, xright);
+    columns::clear_table(xkind, xleft, xright);
     clear_automaton(expression, accepting, from, letter, to);
-}
-
-fn clear_rows(xkind: &mut [u8], xleft: &mut [u16], xright: &mut [u16])
-    ensures { λ _. ⌜ now (xkind .exit) ≡ zeros (length (now (xkind .entry))) ⌝ }
-    ensures { λ _. ⌜ now (xleft .exit) ≡ zeros (length (now (xleft .entry))) ⌝ }
-    ensures { λ _. ⌜ now (xright .exit) ≡ zeros (length (now (xright .entry))) ⌝ }
-{
-    columns::clear8(xkind);
-    columns::clear16(xleft);
-    columns::clear16(xright);
 }
 
 pub fn clear_automaton(
