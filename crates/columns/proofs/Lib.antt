@@ -1,3 +1,3 @@
-pub mod Clearing
-pub mod Signs
+mod Clearing
+mod Signs
 pub mod ByteAt

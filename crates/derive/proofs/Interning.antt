@@ -22,13 +22,13 @@ module _ {t : Table} {n room : ℕ} {w : Row} (f : Fitted t n room) (s : Sound n
   pub intern-found : {i : ℕ} → i < n → row t i ≡ w → Interns t n room (row-tree w (trees t n)) (At i n) t
   intern-found l e = intern-there f l (rows-tree (f .rows) l ∙ ap (λ v. row-tree v (trees t n)) e)
 
-  module _ {start i : ℕ} (behind : (j : ℕ) → Sound j w → start ≤ j) (first : FirstRow t n start w i) (all : n ≤ i) where
+  module _ {start i : ℕ} (starts : (j : ℕ) → Sound j w → start ≤ j) (first : FirstRow t n start w i) (all : n ≤ i) where
     -- A row that the search did not find is not there.
     absent : List·Memᴰ (row-tree w (trees t n)) (trees t n) → ⊥
     absent m =
         let r = trees-of t n m in
         let e = row-found (f .rows) s (r .1) (sym (r .2)) in
-        first .before (r .0) (behind (r .0) (subst (Sound (r .0)) e (f .rows .sound (r .0) (r .1)))) (lt-of-lt-of-le (r .1) all) e
+        first .before (r .0) (starts (r .0) (subst (Sound (r .0)) e (f .rows .sound (r .0) (r .1)))) (lt-of-lt-of-le (r .1) all) e
 
     pub intern-full : room ≤ n → Interns t n room (row-tree w (trees t n)) Full t
     intern-full l =

@@ -1,16 +1,16 @@
 pub mod Growing
 pub mod Coming
-pub mod Finding
-pub mod Interning
-pub mod Reading
+mod Finding
+mod Interning
+mod Reading
 pub mod Taking
-pub mod Joining
-pub mod Lifting
-pub mod Lowering
+mod Joining
+mod Lifting
+mod Lowering
 pub mod Listing
-pub mod Siding
-pub mod Membership
-pub mod Stepping
-pub mod SideStep
-pub mod FreshStep
-pub mod RowStep
+mod Siding
+mod Membership
+mod Stepping
+mod SideStep
+mod FreshStep
+mod RowStep

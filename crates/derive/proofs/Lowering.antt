@@ -68,7 +68,7 @@ module _ {t : Table} {n p other : ℕ} (h : Rows t n) (lp : p < n) (lo : other <
   k = kind-of-sign (join-sign j)
 
   outside : (other ≡ 0 → ⊥) → (p ≡ other → ⊥) → ((row t p) .kind ≡ k → o ≡ other → (m ≡ 0 → ⊥) → ⊥) → Lowers t n other j p Outside
-  outside d d′ none x e = go (same x ε)
+  outside d d′ apart x e = go (same x ε)
     where
       go : Dec (x ≡ ε) → ⊥
       go (yes q) = d′ (rows-differ h lp lo (sym e ∙ ap (beside j (tree-at t other)) q ∙ beside-ε j (tree-at t other)))
@@ -77,7 +77,7 @@ module _ {t : Table} {n p other : ℕ} (h : Rows t n) (lp : p < n) (lo : other <
           let kind-is = paired-kind h lp j (tree-at t other) x paired-is in
           let r = pairs h lp j kind-is in
           let both = paired-same j (tree-at t other) x (tree-at t o) (tree-at t m) (paired-is ∙ r .is) in
-          none kind-is (rows-differ h (r .other-in) lo (sym (both .0))) (λ z. c (both .1 ∙ ap (tree-at t) z ∙ h .literal))
+          apart kind-is (rows-differ h (r .other-in) lo (sym (both .0))) (λ z. c (both .1 ∙ ap (tree-at t) z ∙ h .literal))
 
   inside : (other ≡ 0 → ⊥) → (row t p) .kind ≡ k → o ≡ other → (m ≡ 0 → ⊥) → Lowers t n other j p (Member m)
   inside d e q c =

@@ -1,1 +1,1 @@
-pub mod Scanning
+mod Scanning
