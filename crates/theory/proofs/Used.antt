@@ -4,13 +4,14 @@ use mathlib.Core.Path.{_≡_, refl, sym, subst}
 use mathlib.Core.Logic.{⊎-elim}
 use mathlib.Core.List.{List, List·Memᴰ, List·Memᴰ·not-nil, List·Memᴰ·eq-of-singleton, List·Memᴰ·append-cases}
 use lib.ListN.{getD}
+use Rattle.theory.specs.Kind as Kind
 use Rattle.theory.specs.Expression.{Expression, ∅, letters}
 use Rattle.theory.specs.Table.{Table, row, size, tree, row-tree, node, meaning}
 use Rattle.theory.proofs.Trees.{trees-each}
 
 -- Some entry of the first n is the letter a.
 abbrev pub Entered : Table → ℕ → ℕ → Type 0
-Entered t n a = (i : ℕ) × (i < n) × ((row t i) .kind ≡ 2) × ((row t i) .left ≡ a)
+Entered t n a = (i : ℕ) × (i < n) × ((row t i) .kind ≡ Kind.letter) × ((row t i) .left ≡ a)
 
 abbrev AllEntered : Table → ℕ → Expression → Type 0
 AllEntered t n e = (a : ℕ) → List·Memᴰ a (letters e) → Entered t n a
