@@ -31,6 +31,7 @@ pub mod Answers
 pub mod BuilderRefusal
 pub mod Column
 pub mod Filled
+pub mod Handing
 pub mod Needs
 pub mod Accepts
 pub mod MatcherRefusal
