@@ -1,9 +1,5 @@
-pub mod Words
-pub mod Turn
-pub mod Passed
 pub mod Spread
-pub mod Place
+pub mod ByteAt
 pub mod Walk
-pub mod Refused
 pub mod Answered
 pub mod Judging

@@ -5,37 +5,40 @@ use mathlib.Core.Bool.{false}
 use mathlib.Core.List.{List}
 use mathlib.Core.Option.{Option, none, some}
 use lib.ListN.{length, getD}
+use Rattle.theory.specs.Limit.{most-states}
 use Rattle.theory.specs.Language.{Word}
-use Rattle.theory.specs.Record.{Handed, handed, words, start, reached, dead-at, verdict, live}
+use Rattle.theory.specs.Arcs.{Arcs, start, reached, dead-at}
+use Rattle.theory.specs.Record.{Handed, Work, LongEnough, verdict, live}
 use Rattle.theory.specs.Judge.{Judgement, given}
-use Rattle.matcher.specs.Bits.{bit}
+use Rattle.sets.specs.Bits.{bit}
 use Rattle.matcher.specs.declared.moves.Walked.{Walked}
 use Rattle.matcher.specs.declared.moves.Walked.the-variants.{Whole, Dead}
 
--- The used arcs stand in the columns, and the words hold a bit for each of their ends.
-pub record Inside (arcs : ℕ) (from letter to current next : List ℕ) : Type 0 where
-  pub from-long : arcs ≤ length from
-  pub letter-long : arcs ≤ length letter
-  pub to-long : arcs ≤ length to
-  pub from-held : (i : ℕ) → i < arcs → getD from i 0 / 64 < length current
-  pub to-held : (i : ℕ) → i < arcs → getD to i 0 / 64 < length next
+-- The used arcs stand in the columns.
+pub record Stored (a : Arcs) : Type 0 where
+  pub from : a .count ≤ length (a .columns .from)
+  pub letter : a .count ≤ length (a .columns .letter)
+  pub to : a .count ≤ length (a .columns .to)
 
--- What is left of an automaton that is not refused, and of its two work columns.
-pub record Checked (states arcs : ℕ) (from letter to current next : List ℕ) : Type 0 where
-  pub not-empty : 0 < states
-  pub states-few : states ≤ 65535
-  pub from-long : arcs ≤ length from
-  pub letter-long : arcs ≤ length letter
-  pub to-long : arcs ≤ length to
-  pub from-below : (i : ℕ) → i < arcs → getD from i 0 < states
-  pub to-below : (i : ℕ) → i < arcs → getD to i 0 < states
-  pub current-words : words states ≤ length current
-  pub next-words : words states ≤ length next
+-- The words hold a bit for each end of the used arcs.
+pub record Inside (a : Arcs) (k : Work) : Type 0 where
+  pub stored : Stored a
+  pub from-held : (i : ℕ) → i < a .count → getD (a .columns .from) i 0 / 64 < length (k .current)
+  pub to-held : (i : ℕ) → i < a .count → getD (a .columns .to) i 0 / 64 < length (k .next)
+
+-- What moves ask of an automaton that is not refused, and of its work columns. No move looks at the accepting column.
+pub record Checked (states : ℕ) (a : Arcs) (k : Work) : Type 0 where
+  pub some-state : 0 < states
+  pub few-states : states ≤ most-states
+  pub stored : Stored a
+  pub from-below : (i : ℕ) → i < a .count → getD (a .columns .from) i 0 < states
+  pub to-below : (i : ℕ) → i < a .count → getD (a .columns .to) i 0 < states
+  pub enough : LongEnough k states
 
 -- State 0 alone is set, and the other column is clear.
-pub record Ready (current next : List ℕ) : Type 0 where
-  pub started : (t : ℕ) → bit current t ≡ start t
-  pub clear : (t : ℕ) → bit next t ≡ false
+pub record Ready (k : Work) : Type 0 where
+  pub started : (t : ℕ) → bit (k .current) t ≡ start t
+  pub clear : (t : ℕ) → bit (k .next) t ≡ false
 
 -- The place of the first byte after which no state is reached.
 abbrev pub place-of : Walked → Option ℕ
@@ -43,12 +46,12 @@ place-of Whole = none
 place-of (Dead p) = some p
 
 -- A walk ends at the first byte after which no state is reached, or with the states that the whole record reaches.
-pub record Ended (h : Handed) (w : Word) (r : Walked) (current : List ℕ) : Type 0 where
-  pub place : place-of r ≡ dead-at h start 0 w
-  pub set : r ≡ Whole → (t : ℕ) → bit current t ≡ reached h w t
+pub record Ended (a : Arcs) (w : Word) (r : Walked) (current : List ℕ) : Type 0 where
+  pub place : place-of r ≡ dead-at a start 0 w
+  pub set : r ≡ Whole → (t : ℕ) → bit current t ≡ reached a w t
 
--- What a walk's end says of an automaton that is not refused, whatever its arcs and the record: the verdict with live.
+-- What a walk's end says, whatever the arcs between these states and the record: the verdict with live.
 abbrev pub Answers : ℕ → List ℕ → Walked → List ℕ → Judgement → Type 0
 Answers states accepting walked current answer =
-    (arcs : ℕ) (from letter to : List ℕ) (current₀ next₀ : List ℕ) → Checked states arcs from letter to current₀ next₀ → (w : Word)
-    → let h = handed states accepting arcs from letter to in Ended h w walked current → answer ≡ given (verdict h w) (live h w)
+    (a : Arcs) (k : Work) → Checked states a k → (w : Word) → Ended a w walked current
+    → let h : Handed = record { states = states; accepting = accepting; arcs = a } in answer ≡ given (verdict h w) (live h w)

@@ -1,13 +1,11 @@
 // The matcher: judges a record over any automaton that it is handed, and trusts none of it.
 
-mod bits;
 mod checks;
 mod moves;
 
 ghost use mathlib.Core.Path.{_≡_};
-ghost use lib.ListN.{length};
-ghost use Rattle.theory.specs.Column.{zeros};
-ghost use Rattle.theory.specs.Record.{handed};
+ghost use Rattle.theory.specs.Arcs.{arc-columns};
+ghost use Rattle.theory.specs.Record.{handed, work, cleared};
 ghost use Rattle.theory.specs.Judge.{Judged};
 ghost use Rattle.matcher.specs.Answer.{values};
 
@@ -21,8 +19,7 @@ pub enum Judgement {
 
 // 01: "Work columns are zero afterwards."
 fn clear(current: &mut [u64], next: &mut [u64])
-    ensures current { λ _. ⌜ now (current .exit) ≡ zeros (length (now (current .entry))) ⌝ }
-    ensures next { λ _. ⌜ now (next .exit) ≡ zeros (length (now (next .entry))) ⌝ }
+    ensures { λ _. ⌜ work (now (current .exit)) (now (next .exit)) ≡ cleared (work (now (current .entry)) (now (next .entry))) ⌝ }
 {
     columns::clear64(current);
     columns::clear64(next);
@@ -40,21 +37,15 @@ pub fn judge(
     next: &mut [u64],
 ) -> Judgement
     ensures { λ r.
-        ⌜ Judged (handed states (now (accepting .entry)) arcs (now (from .entry)) (now (letter .entry)) (now (to .entry)))
-        (now («record» .entry)) (now (current .entry)) (now (next .entry)) (values r) (now (current .exit)) (now (next .exit)) ⌝ }
+        ⌜ Judged (handed states (now (accepting .entry)) arcs (arc-columns (now (from .entry)) (now (letter .entry)) (now (to .entry))))
+        (now («record» .entry)) (work (now (current .entry)) (now (next .entry))) (values r) (work (now (current .exit)) (now (next .exit))) ⌝ }
 {
-    let sizes = checks::Sizes {
-        states,
-        arcs,
-        current: current.len(),
-        next: next.len(),
-    };
-    let number = checks::refusal(sizes, accepting, from, letter, to);
+    let number = checks::refusal(states, accepting, arcs, from, letter, to, current, next);
     clear(current, next);
     if number != 0 {
         return Judgement::Refused { number };
     }
-    bits::mark(current, 0);
+    sets::mark(current, 0);
     let walked = moves::walk(states, arcs, from, letter, to, record, current, next);
     let answer = moves::answer(walked, states, accepting, current);
     clear(current, next);

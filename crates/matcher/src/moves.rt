@@ -4,12 +4,14 @@ use columns::Cursor;
 use columns::Step;
 ghost use mathlib.Core.Path.{_≡_};
 ghost use mathlib.Core.Bool.{_&&_, _||_};
-ghost use mathlib.Core.List.{List};
 ghost use Prim.Native.Nat.{ℕ, _≤_};
 ghost use lib.ListN.{length, getD};
 ghost use lib.Dec.{eqb};
-ghost use Rattle.theory.specs.Record.{handed, words, some-below, leads};
-ghost use Rattle.matcher.specs.Bits.{bit};
+ghost use Rattle.theory.specs.Limit.{most-states};
+ghost use Rattle.theory.specs.Below.{some-below};
+ghost use Rattle.theory.specs.Arcs.{arc-columns, counted, moved};
+ghost use Rattle.theory.specs.Record.{work, words};
+ghost use Rattle.sets.specs.Bits.{bit};
 ghost use Rattle.matcher.specs.Moves.{Inside, Checked, Ready, Ended, Answers};
 ghost use Rattle.matcher.specs.Answer.{values};
 
@@ -23,18 +25,17 @@ fn spread(
     current: &[u64],
     next: &mut [u64],
 )
-    requires { ⌜ Inside arcs (now from) (now letter) (now to) (now current) (now next) ⌝ }
+    requires { ⌜ Inside (counted arcs (arc-columns (now from) (now letter) (now to))) (work (now current) (now next)) ⌝ }
     ensures { λ _.
         ⌜ ((t : ℕ) → bit (now (next .exit)) t
         ≡ (bit (now (next .entry)) t
-        || some-below arcs
-        (leads (now (from .entry)) (now (letter .entry)) (now (to .entry)) (bit (now (current .entry))) byte t))) ⌝ }
+        || moved (counted arcs (arc-columns (now (from .entry)) (now (letter .entry)) (now (to .entry)))) (bit (now (current .entry))) byte t)) ⌝ }
 {
     let mut i = 0;
     while i < arcs {
         if letter[i] == byte {
-            if super::bits::marked(current, from[i] as usize) {
-                super::bits::mark(next, to[i] as usize);
+            if sets::marked(current, from[i] as usize) {
+                sets::mark(next, to[i] as usize);
             }
         }
         i += 1;
@@ -47,7 +48,6 @@ pub enum Walked {
     Dead { place: usize },
 }
 
-// Whatever the accepting column, which no move looks at.
 pub fn walk(
     states: usize,
     arcs: usize,
@@ -58,25 +58,24 @@ pub fn walk(
     current: &mut [u64],
     next: &mut [u64],
 ) -> Walked
-    requires { ⌜ Checked states arcs (now from) (now letter) (now to) (now current) (now next) ⌝ }
-    requires { ⌜ Ready (now current) (now next) ⌝ }
+    requires { ⌜ Checked states (counted arcs (arc-columns (now from) (now letter) (now to))) (work (now current) (now next)) ⌝ }
+    requires { ⌜ Ready (work (now current) (now next)) ⌝ }
     ensures { λ r.
-        ⌜ ((accepting : List ℕ) →
-        Ended (handed states accepting arcs (now (from .entry)) (now (letter .entry)) (now (to .entry)))
-        (now («record» .entry)) r (now (current .exit))) ⌝ }
+        ⌜ Ended (counted arcs (arc-columns (now (from .entry)) (now (letter .entry)) (now (to .entry)))) (now («record» .entry)) r
+        (now (current .exit)) ⌝ }
 {
-    let words = (states + 63) / 64;
+    let words = sets::words(states);
     let mut cursor = Cursor::start();
     loop {
         let place = cursor.at;
-        let Step::Byte(byte, behind) = cursor.step(record) else {
+        let Step::Byte(byte, after) = cursor.step(record) else {
             return Walked::Whole;
         };
         spread(arcs, from, letter, to, byte, current, next);
-        if !super::bits::turn(words, current, next) {
+        if !sets::turn(words, current, next) {
             return Walked::Dead { place };
         }
-        cursor = behind;
+        cursor = after;
     }
 }
 
@@ -88,7 +87,7 @@ fn accepts(states: usize, accepting: &[u8], current: &[u64]) -> bool
     let mut any = false;
     let mut t = 0;
     while t < states {
-        any = any | (super::bits::marked(current, t) & (accepting[t] == 1));
+        any = any | (sets::marked(current, t) & (accepting[t] == 1));
         t += 1;
     }
     any
@@ -96,14 +95,14 @@ fn accepts(states: usize, accepting: &[u8], current: &[u64]) -> bool
 
 // What the end of a walk says, whatever the arcs and the record that it went along.
 pub fn answer(walked: Walked, states: usize, accepting: &[u8], current: &[u64]) -> super::Judgement
-    requires { ⌜ (states ≤ 65535) × (states ≤ length (now accepting)) × (words states ≤ length (now current)) ⌝ }
+    requires { ⌜ (states ≤ most-states) × (states ≤ length (now accepting)) × (words states ≤ length (now current)) ⌝ }
     ensures { λ r. ⌜ Answers states (now (accepting .entry)) walked (now (current .entry)) (values r) ⌝ }
 {
     match walked {
         Walked::Dead { place } => super::Judgement::Wrong { place },
         Walked::Whole => {
             // 01: `live` is "the number of set state bits after the last byte".
-            let live = super::bits::count((states + 63) / 64, current);
+            let live = sets::count(sets::words(states), current);
             if accepts(states, accepting, current) {
                 super::Judgement::Accepted { live }
             } else {

@@ -44,7 +44,7 @@ module _ (c : ArcColumns) where
   -- ---- One arc
 
   module _ (s : States) (b i : ℕ) where
-    leaves-iff : (leaves c s b i ≡ true) ↔ ((getD (c .letter) i 0 ≡ b) × (s (getD (c .from) i 0) ≡ true))
+    pub leaves-iff : (leaves c s b i ≡ true) ↔ ((getD (c .letter) i 0 ≡ b) × (s (getD (c .from) i 0) ≡ true))
     unfolding leaves
     leaves-iff = (forth (eqb (getD (c .letter) i 0) b) refl, λ (p, h). rw (eq-eqb _ _ p, leaves) h)
       where

@@ -140,9 +140,19 @@ pub some-more : (n : ℕ) (p : ℕ → Bool) → some-below (n + 1) p ≡ (some-
 unfolding some-below
 some-more n p = rw add-one
 
-pub all-more : (n : ℕ) (p : ℕ → Bool) → all-below (n + 1) p ≡ (all-below n p && p n)
+all-more : (n : ℕ) (p : ℕ → Bool) → all-below (n + 1) p ≡ (all-below n p && p n)
 unfolding all-below
 all-more n p = rw add-one
+
+pub some-next : (i : ℕ) (p : ℕ → Bool) {b : Bool} → b ≡ some-below i p → (b || p i) ≡ some-below (i + 1) p
+some-next i p e = ap (λ (d : Bool). d || p i) e ∙ sym (some-more i p)
+
+pub all-next : (i : ℕ) (p : ℕ → Bool) {b : Bool} → b ≡ all-below i p → (b && p i) ≡ all-below (i + 1) p
+all-next i p e = ap (λ (d : Bool). d && p i) e ∙ sym (all-more i p)
+
+-- What holds where a loop stops holds of n.
+pub at-end : {A : Type 0} (f : ℕ → A) {a : A} {i n : ℕ} → a ≡ f i → i ≤ n → n ≤ i → a ≡ f n
+at-end f e l m = e ∙ ap f (le-antisymm l m)
 
 -- ---- How many
 

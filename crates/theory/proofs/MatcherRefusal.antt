@@ -2,7 +2,8 @@
 -- Leans on `Below` for the tests over all states and arcs.
 use Prim.Native.Nat.{ℕ, _≤_, _<_}
 use native.Mathlib.Omega.{arith}
-use mathlib.Core.Path.{_≡_, refl, sym, ap, _∙_}
+use mathlib.Core.Path.{_≡_, refl, sym, ap, ap₂, _∙_}
+use mathlib.Core.List.{List}
 use mathlib.Core.Logic.{_↔_}
 use mathlib.Core.Bool.{Bool, true, false, cond, not, _&&_, and-eq-true-iff}
 use lib.ListN.{length, getD}
@@ -41,9 +42,9 @@ arcs-fit-iff a = (
   λ (long, few). (and-eq-true-iff _ _) .1 (le-leb _ _ long, le-leb _ _ few),
 )
 
-accepting-fits-iff : (h : Handed) → (accepting-fits h ≡ true) ↔ ((t : ℕ) → t < h .states → getD (h .accepting) t 0 ≤ 1)
+accepting-fits-iff : (n : ℕ) (flags : List ℕ) → (accepting-fits n flags ≡ true) ↔ ((t : ℕ) → t < n → getD flags t 0 ≤ 1)
 unfolding accepting-fits
-accepting-fits-iff h = (λ e t l. leb-true _ _ (all-at (h .states) _ t e l), λ f. all-each (h .states) _ (λ t l. le-leb _ _ (f t l)))
+accepting-fits-iff n flags = (λ e t l. leb-true _ _ (all-at n _ t e l), λ f. all-each n _ (λ t l. le-leb _ _ (f t l)))
 
 arc-fits-iff : (c : ArcColumns) (n i : ℕ) → (arc-fits c n i ≡ true) ↔ ((getD (c .from) i 0 < n) × (getD (c .to) i 0 < n) × (0 < getD (c .letter) i 0))
 unfolding arc-fits
@@ -61,6 +62,13 @@ ends-fit-iff : (a : Arcs) (n : ℕ) → (ends-fit a n ≡ true) ↔ ((i : ℕ) �
 unfolding ends-fit
 ends-fit-iff a n = (λ e i l. all-at (a .count) _ i e l, all-each (a .count) _)
 
+-- The two counts fit, and what the columns hold fits.
+abbrev pub counts-fit : Handed → Bool
+counts-fit h = states-fit h && arcs-fit (h .arcs)
+
+abbrev pub values-fit : Handed → Bool
+values-fit h = accepting-fits (h .states) (h .accepting) && ends-fit (h .arcs) (h .states)
+
 -- What `well-formed` tests is what 01 asks of an automaton.
 pub well-formed-iff : (h : Handed) → (well-formed h ≡ true) ↔ WellFormedAutomaton h
 unfolding well-formed
@@ -70,11 +78,11 @@ well-formed-iff h = (forth, back)
         → (getD (h .arcs .columns .from) i 0 < h .states) × (getD (h .arcs .columns .to) i 0 < h .states) × (0 < getD (h .arcs .columns .letter) i 0)
     ends e i l = (arc-fits-iff (h .arcs .columns) (h .states) i) .0 ((ends-fit-iff (h .arcs) (h .states)) .0 e i l)
 
-    forth : (states-fit h && arcs-fit (h .arcs) && accepting-fits h && ends-fit (h .arcs) (h .states)) ≡ true → WellFormedAutomaton h
+    forth : (counts-fit h && values-fit h) ≡ true → WellFormedAutomaton h
     forth e =
-        let (counts-values, fit) = (and-eq-true-iff _ _) .0 e in
-        let (counts, values) = (and-eq-true-iff _ _) .0 counts-values in
+        let (counts, values) = (and-eq-true-iff (counts-fit h) (values-fit h)) .0 e in
         let (states, arcs) = (and-eq-true-iff (states-fit h) (arcs-fit (h .arcs))) .0 counts in
+        let (flags, fit) = (and-eq-true-iff (accepting-fits (h .states) (h .accepting)) (ends-fit (h .arcs) (h .states))) .0 values in
         let (some, few, long) = (states-fit-iff h) .0 states in
         let (arcs-long, few-arcs) = (arcs-fit-iff (h .arcs)) .0 arcs in
         record {
@@ -83,22 +91,20 @@ well-formed-iff h = (forth, back)
           accepting-long = long;
           arcs-long = arcs-long;
           few-arcs = few-arcs;
-          accepting-value = (accepting-fits-iff h) .0 values;
+          accepting-value = (accepting-fits-iff (h .states) (h .accepting)) .0 flags;
           from-below = λ i l. ends fit i l .0;
           to-below = λ i l. ends fit i l .1;
           letter-some = λ i l. ends fit i l .2;
         }
 
-    back : WellFormedAutomaton h → (states-fit h && arcs-fit (h .arcs) && accepting-fits h && ends-fit (h .arcs) (h .states)) ≡ true
+    back : WellFormedAutomaton h → (counts-fit h && values-fit h) ≡ true
     back w =
         let states = (states-fit-iff h) .1 (w .some-state, w .few-states, w .accepting-long) in
         let arcs = (arcs-fit-iff (h .arcs)) .1 (w .arcs-long, w .few-arcs) in
-        let counts = (and-eq-true-iff (states-fit h) (arcs-fit (h .arcs))) .1 (states, arcs) in
-        let values = (and-eq-true-iff (states-fit h && arcs-fit (h .arcs)) (accepting-fits h)) .1 (counts, (accepting-fits-iff h) .1 (w .accepting-value)) in
+        let flags = (accepting-fits-iff (h .states) (h .accepting)) .1 (w .accepting-value) in
         let fit : (i : ℕ) → i < h .arcs .count → arc-fits (h .arcs .columns) (h .states) i ≡ true =
         λ i l. (arc-fits-iff (h .arcs .columns) (h .states) i) .1 (w .from-below i l, w .to-below i l, w .letter-some i l) in
-        (and-eq-true-iff (states-fit h && arcs-fit (h .arcs) && accepting-fits h) (ends-fit (h .arcs) (h .states))) .1
-        (values, (ends-fit-iff (h .arcs) (h .states)) .1 fit)
+        rw (states, arcs, flags) ((ends-fit-iff (h .arcs) (h .states)) .1 fit)
 
 -- ---- Refusal 11
 
@@ -118,11 +124,20 @@ abbrev pub ordered : (even good few : Bool) → Refusal
 ordered even good few =
     cond (not even) (refusal columns-differ 0) (cond (not good) (refusal automaton-malformed 0) (cond few (refusal work-short 0) success))
 
+well-formed-by : (h : Handed) {counts values : Bool} → counts-fit h ≡ counts → values-fit h ≡ values → well-formed h ≡ (counts && values)
+unfolding well-formed
+well-formed-by h c v = ap₂ _&&_ c v
+
 module _ (h : Handed) (k : Work) where
   pub refusal-by : {even good few : Bool} → even-arcs (h .arcs .columns) ≡ even → well-formed h ≡ good → short k (h .states) ≡ few
       → matcher-refusal h k ≡ ordered even good few
   unfolding matcher-refusal
   refusal-by e g s = λ i. ordered (e i) (g i) (s i)
+
+  -- The number, as it is found test by test.
+  pub numbered : {even counts values few : Bool} → even-arcs (h .arcs .columns) ≡ even → counts-fit h ≡ counts → values-fit h ≡ values
+      → short k (h .states) ≡ few → (ordered even (counts && values) few) .number ≡ (matcher-refusal h k) .number
+  numbered e c v s = sym (ap (λ (r : Refusal). r .number) (refusal-by e (well-formed-by h c v) s))
 
   -- Refusals 1, 10 and 11 have place 0.
   pub place-zero : (matcher-refusal h k) .place ≡ 0

@@ -65,9 +65,9 @@ unfoldable pub arcs-fit : Arcs → Bool
 arcs-fit a = leb (a .count) (length (a .columns .from)) && leb (a .count) most-arcs
 
 -- 01: "a used accepting value is not 0 or 1".
-unfoldable pub accepting-fits : Handed → Bool
+unfoldable pub accepting-fits : ℕ → List ℕ → Bool
 unfolding all-below
-accepting-fits h = all-below (h .states) (λ t. leb (getD (h .accepting) t 0) 1)
+accepting-fits n flags = all-below n (λ t. leb (getD flags t 0) 1)
 
 -- 01: "a used arc's end is not below the state count, or its letter is 0": arc i of the columns, among n states.
 unfoldable pub arc-fits : ArcColumns → (n i : ℕ) → Bool
@@ -79,7 +79,7 @@ ends-fit a n = all-below (a .count) (arc-fits (a .columns) n)
 
 unfoldable pub well-formed : Handed → Bool
 unfolding states-fit arcs-fit accepting-fits ends-fit
-well-formed h = states-fit h && arcs-fit (h .arcs) && accepting-fits h && ends-fit (h .arcs) (h .states)
+well-formed h = states-fit h && arcs-fit (h .arcs) && (accepting-fits (h .states) (h .accepting) && ends-fit (h .arcs) (h .states))
 
 -- What `well-formed` tests: an automaton that is not malformed, by 01's causes of refusal 10.
 pub record WellFormedAutomaton (h : Handed) : Type 0 where

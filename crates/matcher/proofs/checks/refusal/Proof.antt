@@ -1,98 +1,109 @@
--- `checks::refusal` meets its contract: each way out is one case of the refusal's tests.
+-- `refusal` meets its contract: each way out is one case of the refusal's tests.
+use Prim.Native.Nat.{ℕ}
 use native.Mathlib.Omega.{arith}
-use mathlib.Core.Path.{_≡_, refl, sym, ap₂, _∙_}
-use mathlib.Core.Bool.{true, _&&_}
+use mathlib.Core.Path.{_≡_, refl, sym, ap, ap₂, _∙_}
+use mathlib.Core.Bool.{Bool, true, _&&_, _||_, and-eq-true-iff}
+use lib.ListN.{length}
+use lib.Dec.{ltb}
 use borrow.Author.Tests.{not-true, not-false}
-use Rattle.theory.specs.Record.{Handed, handed, states-fit, arcs-fit, accepting-fits, ends-fit}
-use Rattle.matcher.proofs.Refused.{alike, counts-fit, values-fit, numbered, alike-told, counts-told}
+use Rattle.theory.specs.Arcs.{arc-columns, even-arcs}
+use Rattle.theory.specs.Record.{Handed, handed, Work, work, short, states-fit, arcs-fit, matcher-refusal}
+use Rattle.theory.proofs.Arcs.{even-arcs-iff}
+use Rattle.theory.proofs.MatcherRefusal.{states-fit-iff, arcs-fit-iff, counts-fit, values-fit, ordered, numbered}
 use Rattle.matcher.proofs.checks.refusal.Statement.{statement}
 use Rattle.matcher.proofs.checks.refusal.Tie as tie
 
--- ---- The places behind each test, and what the tests tell
+-- ---- The places: the entry, the test of the counts and of the values passed
 
-abbrev entry : tie.After-shared-slice-known4 → tie.Start
-entry c = c .before .before .before .before
+abbrev arcs-known : tie.After-shared-slice-known6 → tie.After-shared-slice-known3
+arcs-known c = c .before .before .before
 
-abbrev alike-passed : tie.Else2 → tie.Else1
-alike-passed c = c .before
+abbrev entry : tie.After-shared-slice-known6 → tie.Start
+entry c = arcs-known c .before .before .before
 
-abbrev counts-passed : tie.After-ends-fit → tie.Else2
-counts-passed c = c .before .before
+abbrev counted : tie.After-ends-fit → tie.Else2
+counted c = c .before .before
+
+abbrev values-seen : tie.After-words → tie.Else2
+values-seen c = counted (c .before .before)
+
+-- ---- What is handed over, and what the tests tell of it
 
 abbrev automaton : tie.Start → Handed
-automaton c = handed (c .args .sizes .states) (c .args .accepting .now) (c .args .sizes .arcs) (c .args .from .now) (c .args .letter .now) (c .args .to .now)
+automaton c =
+    handed (c .args .states) (c .args .accepting .now) (c .args .arcs) (arc-columns (c .args .from .now) (c .args .letter .now) (c .args .to .now))
 
-alike-true : (c : tie.Else1) → alike (automaton (entry (c .before))) ≡ true
-alike-true c = not-false _ (c .if1 .left)
+abbrev lent : tie.Start → Work
+lent c = work (c .args .current .now) (c .args .next .now)
 
-counts-true : (c : tie.Else2) → counts-fit (automaton (entry (alike-passed c .before))) ≡ true
+even : (c : tie.Else1) → even-arcs (automaton (entry (c .before)) .arcs .columns) ≡ true
+unfolding even-arcs
+even c = not-false _ (c .if1 .left)
+
+counts : (c : tie.Else2) → counts-fit (automaton (entry (c .before .before))) ≡ true
 unfolding states-fit arcs-fit
-counts-true c = not-false _ (c .if2 .left)
+counts c = not-false _ (c .if2 .left)
 
-values-given : (c : tie.After-ends-fit)
-    → values-fit (automaton (entry (alike-passed (counts-passed c) .before))) ≡ (c .before .accepting-fits .result && c .ends-fit .result)
-unfolding accepting-fits ends-fit
-values-given c = sym (ap₂ _&&_ (c .before .accepting-fits .ensures) (c .ends-fit .ensures))
+values : (c : tie.After-ends-fit) → values-fit (automaton (entry (counted c .before .before))) ≡ (c .before .accepting-fits .result && c .ends-fit .result)
+values c = sym (ap₂ _&&_ (c .before .accepting-fits .ensures) (c .ends-fit .ensures))
 
 -- ---- The needs
 
-returns : tie.Need-returns
-returns c =
-    let e = entry (c .before) in
-    numbered (automaton e) (e .args .sizes .current) (e .args .sizes .next) (not-true _ (c .if1 .taken)) refl refl refl
+columns-differ : tie.Need-returns
+unfolding even-arcs
+columns-differ c = let e = entry (c .before) in numbered (automaton e) (lent e) (not-true _ (c .if1 .taken)) refl refl refl
 
-returns-2 : tie.Need-returns-2
+count-misfits : tie.Need-returns-2
 unfolding states-fit arcs-fit
-returns-2 c =
+count-misfits c =
     let e = entry (c .before .before) in
-    numbered (automaton e) (e .args .sizes .current) (e .args .sizes .next) (alike-true (c .before)) (not-true _ (c .if2 .taken)) refl refl
+    numbered (automaton e) (lent e) (even (c .before)) (not-true _ (c .if2 .taken)) refl refl
 
-accepting-fits-requires : tie.Need-accepting-fits-requires
-accepting-fits-requires c κs = counts-told (automaton (entry (alike-passed c .before))) (counts-true c) .accepting-long
+accepting-long : tie.Need-accepting-fits-requires
+accepting-long c κs =
+    let h = automaton (entry (c .before .before)) in
+    (states-fit-iff h) .0 ((and-eq-true-iff (states-fit h) _) .0 (counts c) .0) .2
 
-ends-fit-requires : tie.Need-ends-fit-requires
-ends-fit-requires c κs =
-    let h = automaton (entry (alike-passed (c .before) .before)) in
-    let same = alike-told h (alike-true (alike-passed (c .before))) in
-    let long = counts-told h (counts-true (c .before)) .from-long in
-    (long, omega (arith, same .letter-same), omega (arith, same .to-same))
+arcs-long : tie.Need-ends-fit-requires
+arcs-long c κs =
+    let h = automaton (entry (c .before .before .before)) in
+    let long = (arcs-fit-iff (h .arcs)) .0 ((and-eq-true-iff (states-fit h) _) .0 (counts (c .before)) .1) .0 in
+    let same = (even-arcs-iff (h .arcs .columns)) .0 (even (c .before .before)) in
+    (long, omega (arith, same .letter), omega (arith, same .to))
 
-returns-3 : tie.Need-returns-3
-returns-3 c =
-    let counts = counts-passed (c .before) in
-    let e = entry (alike-passed counts .before) in
-    numbered (automaton e) (e .args .sizes .current) (e .args .sizes .next) (alike-true (alike-passed counts)) (counts-true counts)
-    (values-given (c .before) ∙ not-true _ (c .if3 .taken)) refl
+value-misfits : tie.Need-returns-3
+value-misfits c =
+    let at = counted (c .before) in
+    let e = entry (at .before .before) in
+    numbered (automaton e) (lent e) (even (at .before)) (counts at) (values (c .before) ∙ not-true _ (c .if3 .taken)) refl
 
-add-words : tie.Need-add-words
-add-words c =
-    let counts = counts-passed (c .before) in
-    let few = counts-told (automaton (entry (alike-passed counts .before))) (counts-true counts) .states-few in
+few-states : tie.Need-words-requires
+few-states c κs =
+    let at = counted (c .before) in
+    let h = automaton (entry (at .before .before)) in
+    let few = (states-fit-iff h) .0 ((and-eq-true-iff (states-fit h) _) .0 (counts at) .0) .1 in
     omega arith
 
-returns-4 : tie.Need-returns-4
-returns-4 c =
-    let counts = counts-passed (c .before .before .before .before) in
-    let e = entry (alike-passed counts .before) in
-    numbered (automaton e) (e .args .sizes .current) (e .args .sizes .next) (alike-true (alike-passed counts)) (counts-true counts)
-    (values-given (c .before .before .before .before) ∙ not-false _ (c .before .before .before .if3 .left)) (c .if4 .taken)
+-- All but the last test is passed, and that one is answered by b.
+last-test : (c : tie.After-words) {b : Bool}
+    → (let e = entry (values-seen c .before .before) in
+    (ltb (length (e .args .current .now)) (c .words .result) || ltb (length (e .args .next .now)) (c .words .result)) ≡ b
+    → (ordered true true b) .number ≡ (matcher-refusal (automaton e) (lent e)) .number)
+unfolding short
+last-test c q =
+    let at = values-seen c in
+    let e = entry (at .before .before) in
+    let fits = values (c .before .before) ∙ not-false _ (c .before .if3 .left) in
+    numbered (automaton e) (lent e) (even (at .before)) (counts at) fits
+    (ap (λ (n : ℕ). ltb (length (e .args .current .now)) n || ltb (length (e .args .next .now)) n) (sym (c .words .ensures)) ∙ q)
 
-returns-5 : tie.Need-returns-5
-returns-5 c =
-    let counts = counts-passed (c .before .before .before .before) in
-    let e = entry (alike-passed counts .before) in
-    numbered (automaton e) (e .args .sizes .current) (e .args .sizes .next) (alike-true (alike-passed counts)) (counts-true counts)
-    (values-given (c .before .before .before .before) ∙ not-false _ (c .before .before .before .if3 .left)) (c .if4 .left)
+work-short : tie.Need-returns-4
+work-short c = last-test (c .before) (c .if4 .taken)
+
+nothing-due : tie.Need-returns-5
+nothing-due c = last-test (c .before) (c .if4 .left)
 
 pub refusal-spec : {M : Type 1} → statement M
 refusal-spec =
     tie.close
-    (tie.spec
-    returns
-    returns-2
-    accepting-fits-requires
-    ends-fit-requires
-    returns-3
-    add-words
-    returns-4
-    returns-5)
+    (tie.spec columns-differ count-misfits accepting-long arcs-long value-misfits few-states work-short nothing-due)

@@ -1,35 +1,48 @@
--- `moves::answer` meets its contract: each of its answers is the verdict with live.
+-- `answer` meets its contract: each of its answers is the verdict with live.
 use borrow.Author.Needs.{needs}
-use mathlib.Core.Path.{sym, _∙_}
+use Prim.Native.Nat.{ℕ, _*_}
+use native.Mathlib.Omega.{arith}
+use mathlib.Core.Path.{_≡_, sym, ap, _∙_}
+use Rattle.theory.specs.Below.{count-below}
+use Rattle.theory.specs.Record.{words}
+use Rattle.sets.specs.Bits.{bit}
 use Rattle.matcher.proofs.Answered.{answered-wrong, answered-whole}
 use Rattle.matcher.proofs.moves.answer.Statement.{statement}
 use Rattle.matcher.proofs.moves.answer.Tie as tie
 
-enum-known-walked : tie.Need-enum-known-walked
-enum-known-walked c = search needs
+-- ---- The places: the walk was whole, the entry
 
-enum-told : tie.Need-enum-told
-enum-told c = search needs
+abbrev whole : tie.After-count → tie.After-enum-told
+whole c = c .before .before
 
-add-count : tie.Need-add-count
-add-count c = search needs
+abbrev lent : tie.After-enum-told → tie.After-shared-slice-known2
+lent c = c .before .before
 
-count-requires : tie.Need-count-requires
-count-requires c κs = search needs
+abbrev entry : tie.After-enum-told → tie.Start
+entry c = lent c .before .before
 
-accepts-requires : tie.Need-accepts-requires
-accepts-requires c κs = search needs
+counted : (c : tie.After-count) → let e = entry (whole c) in c .count .result ≡ count-below (words (e .args .states) * 64) (bit (e .args .current .now))
+counted c = c .count .ensures ∙ ap (λ (n : ℕ). count-below (n * 64) (bit (entry (whole c) .args .current .now))) (c .before .words .ensures)
 
-returns : tie.Need-returns
-returns c = λ arcs from letter to current₀ next₀ k w e. answered-wrong k e (c .before .walked .given .1)
+-- ---- The needs
 
-returns-2 : tie.Need-returns-2
-returns-2 c = λ arcs from letter to current₀ next₀ k w e.
-    answered-whole k e (c .before .before .before .enum-told .given .1) (sym (c .if1 .taken) ∙ c .before .accepts .ensures) (c .before .before .count .ensures)
+words-there : tie.Need-count-requires
+words-there c κs = omega (arith, c .words .ensures)
 
-returns-3 : tie.Need-returns-3
-returns-3 c = λ arcs from letter to current₀ next₀ k w e.
-    answered-whole k e (c .before .before .before .enum-told .given .1) (sym (c .if1 .left) ∙ c .before .accepts .ensures) (c .before .before .count .ensures)
+wrong : tie.Need-returns
+wrong c = λ a k h w e. answered-wrong _ h e (c .before .walked .given .1)
+
+accepted : tie.Need-returns-2
+accepted c = λ a k h w e.
+    let count = c .before .before in
+    answered-whole _ h e (whole count .enum-told .given .1) (sym (c .if1 .taken) ∙ c .before .accepts .ensures) (counted count)
+
+unfinished : tie.Need-returns-3
+unfinished c = λ a k h w e.
+    let count = c .before .before in
+    answered-whole _ h e (whole count .enum-told .given .1) (sym (c .if1 .left) ∙ c .before .accepts .ensures) (counted count)
 
 pub answer-spec : {M : Type 1} → statement M
-answer-spec = tie.close (tie.spec enum-known-walked enum-told add-count count-requires accepts-requires returns returns-2 returns-3)
+answer-spec =
+    tie.close
+    (tie.spec (λ c. search needs) (λ c. search needs) (λ c κs. search needs) words-there (λ c κs. search needs) wrong accepted unfinished)

@@ -1,4 +1,4 @@
--- `moves::spread` meets its contract: the ends of the arcs passed are set.
+-- `spread` meets its contract: the ends of the arcs passed are set.
 use borrow.Author.Needs.{needs}
 use Prim.Native.Nat.{ℕ, _-_, _≤_}
 use native.Mathlib.Omega.{arith}
@@ -6,63 +6,69 @@ use mathlib.Core.Path.{ap, sym, _∙_}
 use mathlib.Core.Logic.{⊎-elim}
 use mathlib.Core.List.{List}
 use lib.ListN.{length}
-use Rattle.matcher.specs.Bits.{bit}
+use Rattle.theory.specs.Arcs.{arc-columns, moved}
+use Rattle.sets.specs.Bits.{bit}
 use Rattle.matcher.proofs.Spread.{Spread, spread-none, spread-other, spread-unset, spread-set, spread-end}
 use Rattle.matcher.proofs.moves.spread.Statement.{statement}
 use Rattle.matcher.proofs.moves.spread.Tie as tie
 
 abbrev Inv-loop : tie.InvT-loop
-Inv-loop arcs from letter to byte current next₀ i₀ next i = (i ≤ arcs) × Spread from letter to (bit current) byte next₀ next i
+Inv-loop arcs from letter to byte current next₀ i₀ next i = (i ≤ arcs) × Spread (arc-columns from letter to) (bit current) byte next₀ next i
 
 abbrev μ-loop : tie.MeasureT-loop
 μ-loop arcs from letter to byte current next₀ i₀ next i = arcs - i
 
+-- ---- The places: the entry, the loop's head after the letter, after the start and after the end of an arc
+
+abbrev arcs-known : tie.At-loop Inv-loop μ-loop → tie.After-shared-slice-known3 Inv-loop μ-loop
+arcs-known c = c .before .before .before
+
 abbrev entry : tie.At-loop Inv-loop μ-loop → tie.Start Inv-loop μ-loop
-entry c = c .before .before .before .before .before .before
+entry c = arcs-known c .before .before .before
+
+abbrev at-letter : tie.After-shared-slice-known5 Inv-loop μ-loop → tie.At-loop Inv-loop μ-loop
+at-letter c = c .before .before
+
+abbrev at-from : tie.After-shared-slice-known6 Inv-loop μ-loop → tie.At-loop Inv-loop μ-loop
+at-from c = at-letter (c .before .before)
+
+abbrev marking : tie.After-shared-slice-known7 Inv-loop μ-loop → tie.After-marked Inv-loop μ-loop
+marking c = c .before .before .before
+
+abbrev at-to : tie.After-shared-slice-known7 Inv-loop μ-loop → tie.At-loop Inv-loop μ-loop
+at-to c = at-from (marking c .before)
+
+-- ---- The needs
 
 loop-holds : tie.Need-loop-holds Inv-loop μ-loop
 loop-holds c = (omega arith, spread-none)
 
-shared-slice-read-if1 : tie.Need-shared-slice-read-if1 Inv-loop μ-loop
-shared-slice-read-if1 c = search needs
+letter-read : tie.Need-shared-slice-read-if1 Inv-loop μ-loop
+letter-read c = omega (arith, entry (at-letter c) .pre .stored .letter)
 
-mul-marked : tie.Need-mul-marked Inv-loop μ-loop
-mul-marked c = search needs
+from-read : tie.Need-shared-slice-read-marked Inv-loop μ-loop
+from-read c = omega (arith, entry (at-from c) .pre .stored .from)
 
-shared-slice-read-marked : tie.Need-shared-slice-read-marked Inv-loop μ-loop
-shared-slice-read-marked c = search needs
-
-cast-marked : tie.Need-cast-marked Inv-loop μ-loop
-cast-marked c = omega (arith, c .shared-slice-known6 .given (c .before .before .before .before .loop .i))
+from-cast : tie.Need-cast-marked Inv-loop μ-loop
+from-cast c = omega (arith, c .shared-slice-known6 .given (at-from c .loop .i))
 
 marked-requires : tie.Need-marked-requires Inv-loop μ-loop
-marked-requires c κs =
-    let l = c .before .before .before .before in
-    entry l .pre .from-held (l .loop .i) (omega arith)
+marked-requires c κs = entry (at-from c) .pre .from-held (at-from c .loop .i) (omega arith)
 
-mul-mark : tie.Need-mul-mark Inv-loop μ-loop
-mul-mark c = search needs
+to-read : tie.Need-shared-slice-read-mark Inv-loop μ-loop
+to-read c = omega (arith, entry (at-to c) .pre .stored .to)
 
-shared-slice-read-mark : tie.Need-shared-slice-read-mark Inv-loop μ-loop
-shared-slice-read-mark c = search needs
-
-cast-mark : tie.Need-cast-mark Inv-loop μ-loop
-cast-mark c = omega (arith, c .shared-slice-known7 .given (c .before .before .before .before .before .before .before .before .loop .i))
+to-cast : tie.Need-cast-mark Inv-loop μ-loop
+to-cast c = omega (arith, c .shared-slice-known7 .given (at-to c .loop .i))
 
 mark-requires : tie.Need-mark-requires Inv-loop μ-loop
 mark-requires c κs =
-    let l = c .before .before .before .before .before .before .before .before in
-    omega (arith, entry l .pre .to-held (l .loop .i) (omega arith), l .loop .inv .1 .same-length)
-
-add-i : tie.Need-add-i Inv-loop μ-loop
-add-i c = search needs
-
-loop-less : tie.Need-loop-less Inv-loop μ-loop
-loop-less c = search needs
+    let at = at-to c in
+    omega (arith, entry at .pre .to-held (at .loop .i) (omega arith), at .loop .inv .1 .same-length)
 
 loop-again : tie.Need-loop-again Inv-loop μ-loop
 loop-again c =
-    let r = c .before .before .before .loop .inv .1 in (
+    let r = at-letter (c .before) .loop .inv .1 in (
       omega arith,
       ⊎-elim
           (λ w.
@@ -75,26 +81,11 @@ same-length : tie.Need-same-length Inv-loop μ-loop
 same-length c = c .before .loop .inv .1 .same-length
 
 returns : tie.Need-returns Inv-loop μ-loop
+unfolding moved
 returns c = spread-end (c .before .loop .inv .1) (c .before .loop .inv .0) (c .loop-test .left) .set
 
 pub spread-spec : {M : Type 1} → statement M
 spread-spec =
     tie.close
-    (tie.spec
-    Inv-loop
-    μ-loop
-    loop-holds
-    shared-slice-read-if1
-    mul-marked
-    shared-slice-read-marked
-    cast-marked
-    marked-requires
-    mul-mark
-    shared-slice-read-mark
-    cast-mark
-    mark-requires
-    add-i
-    loop-less
-    loop-again
-    same-length
-    returns)
+    (tie.spec Inv-loop μ-loop loop-holds letter-read (λ c. search needs) from-read from-cast marked-requires (λ c. search needs) to-read to-cast mark-requires
+    (λ c. search needs) (λ c. search needs) loop-again same-length returns)

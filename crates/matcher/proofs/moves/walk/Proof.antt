@@ -1,163 +1,142 @@
--- `moves::walk` meets its contract: at each place the states of the bytes before it are set.
+-- `walk` meets its contract: at each place the states of the bytes before it are set.
 use borrow.Author.Needs.{needs}
 use Prim.Native.Nat.{ℕ, _-_}
 use native.Mathlib.Omega.{arith}
-use mathlib.Core.Path.{_≡_, refl, sym, _∙_}
+use mathlib.Core.Path.{sym, _∙_}
 use mathlib.Core.List.{List}
 use lib.ListN.{length, getD}
 use borrow.Author.Tests.{not-true, not-false}
-use Rattle.theory.specs.Record.{Handed, handed}
-use Rattle.matcher.proofs.Place.{Read, at-byte, at-end-of}
-use Rattle.matcher.proofs.Walk.{Walk, Turn, so-far, walk-at, walk-start, walk-whole, inside, one-byte, walk-more, walk-dead}
+use Rattle.theory.specs.Arcs.{Arcs, arc-columns, counted}
+use Rattle.theory.specs.Record.{Work, work}
+use Rattle.matcher.proofs.ByteAt.{ByteAt, step-byte, step-end}
+use Rattle.matcher.proofs.Walk.{SameWork, same-work, inside, so-far, Walk, Turn, walk-at, walk-start, walk-whole, one-byte, walk-more, walk-dead}
 use Rattle.matcher.proofs.moves.walk.Statement.{statement}
 use Rattle.matcher.proofs.moves.walk.Tie as tie
 
 abbrev Inv-loop : tie.InvT-loop
 Inv-loop states arcs from letter to «record» current₀ next₀ words cursor₀ current next cursor =
-    (length current ≡ length current₀) × (length next ≡ length next₀)
-    × ((accepting : List ℕ) → Walk (handed states accepting arcs from letter to) «record» current next (cursor .at))
+    SameWork (work current₀ next₀) (work current next) × Walk (counted arcs (arc-columns from letter to)) «record» (work current next) (cursor .at)
 
 abbrev μ-loop : tie.MeasureT-loop
 μ-loop states arcs from letter to «record» current₀ next₀ words cursor₀ current next cursor = length «record» - cursor .at
 
--- ---- The places behind the loop's head, the byte and the turn
+-- ---- The places: the entry, the loop's head, the byte read, the arcs passed, the words handed over
 
-abbrev entry : tie.At-loop Inv-loop μ-loop → tie.Start Inv-loop μ-loop
-entry c = c .before .before .before .before .before .before .before .before
+abbrev lent : tie.At-loop Inv-loop μ-loop → tie.After-slice-known2 Inv-loop μ-loop
+lent c = c .before .before .before
+
+abbrev arcs-known : tie.After-slice-known2 Inv-loop μ-loop → tie.After-shared-slice-known3 Inv-loop μ-loop
+arcs-known c = c .before .before .before
+
+abbrev entry : tie.After-slice-known2 Inv-loop μ-loop → tie.Start Inv-loop μ-loop
+entry c = arcs-known c .before .before .before
 
 abbrev head : tie.After-byte Inv-loop μ-loop → tie.At-loop Inv-loop μ-loop
 head c = c .before .before .before
 
+abbrev told : tie.After-spread Inv-loop μ-loop → tie.After-known-told Inv-loop μ-loop
+told c = c .before .before .before
+
+abbrev arcs-passed : tie.After-turn-arg2 Inv-loop μ-loop → tie.After-next Inv-loop μ-loop
+arcs-passed c = c .before .before .before
+
 abbrev spreading : tie.After-turn Inv-loop μ-loop → tie.After-spread Inv-loop μ-loop
-spreading c = c .before .before .before .before .before
+spreading c = arcs-passed (c .before) .before
 
 abbrev reading : tie.After-turn Inv-loop μ-loop → tie.After-byte Inv-loop μ-loop
-reading c = spreading c .before .before .before .before
+reading c = told (spreading c) .before
+
+abbrev turned : tie.After-slice-known5 Inv-loop μ-loop → tie.After-current Inv-loop μ-loop
+turned c = c .before .before .before
 
 -- ---- What they tell
 
-abbrev text : tie.At-loop Inv-loop μ-loop → List ℕ
-text c = entry c .args .«record» .now
+abbrev begin : tie.At-loop Inv-loop μ-loop → tie.Start Inv-loop μ-loop
+begin c = entry (lent c)
+
+abbrev arcs-of : tie.Start Inv-loop μ-loop → Arcs
+arcs-of c = counted (c .args .arcs) (arc-columns (c .args .from .now) (c .args .letter .now) (c .args .to .now))
+
+abbrev bytes : tie.At-loop Inv-loop μ-loop → List ℕ
+bytes c = begin c .args .«record» .now
 
 abbrev place : tie.At-loop Inv-loop μ-loop → ℕ
 place c = c .loop .cursor .at
 
-abbrev automaton : tie.At-loop Inv-loop μ-loop → List ℕ → Handed
-automaton c accepting =
-    handed (entry c .args .states) accepting (entry c .args .arcs) (entry c .args .from .now) (entry c .args .letter .now) (entry c .args .to .now)
+abbrev work-first : tie.Start Inv-loop μ-loop → Work
+work-first c = work (c .args .current .now) (c .args .next .now)
 
-read : (c : tie.After-byte Inv-loop μ-loop) → Read (text (head c)) (place (head c)) (c .byte .given .0 .0) (c .byte .given .0 .1 .0)
-read c = at-byte (text (head c)) (place (head c)) _ _ (sym (c .byte .given .1) ∙ c .before .before .step .ensures)
+abbrev work-turned : tie.After-turn Inv-loop μ-loop → Work
+work-turned c = work (c .turn .last .1 .0) (c .turn .last .1 .1 .0)
 
-turned : (c : tie.After-turn Inv-loop μ-loop) (accepting : List ℕ)
-    → let l = head (reading c) in
-    Turn (automaton l accepting) (so-far (automaton l accepting) (text l) (place l)) (getD (text l) (place l) 0)
-    (c .turn .last .1 .0) (c .turn .last .1 .1 .0) (c .turn .result)
-turned c accepting =
-    let l = head (reading c) in
+-- A byte is read.
+read : (c : tie.After-byte Inv-loop μ-loop) → ByteAt (bytes (head c)) (place (head c)) (c .byte .given .0 .0) (c .byte .given .0 .1 .0)
+read c = step-byte (bytes (head c)) (place (head c)) (c .before .before .step .ensures) (c .byte .given .1)
+
+-- The states that it leads to are set.
+moved-on : (c : tie.After-turn Inv-loop μ-loop)
+    → let at = head (reading c) in
+    Turn (arcs-of (begin at)) (so-far (arcs-of (begin at)) (bytes at) (place at)) (getD (bytes at) (place at) 0) (work-turned c) (c .turn .result)
+moved-on c =
+    let at = head (reading c) in
     let spread = spreading c .spread in
     let turn = c .turn .ensures in
-    one-byte (automaton l accepting) (text l) (entry l .pre .0) (l .loop .inv .2 accepting) (read (reading c) .byte)
-    (spread .last .1 .1 .1 .1 .1 .1 .0) (spread .ensures) (turn .0) (turn .1 .0) (turn .1 .1)
+    one-byte (begin at .pre .0) (at .loop .inv .1) (at .before .before .words .ensures) (read (reading c) .here) (spread .last .1 .1 .1 .1 .1 .1 .0)
+    (spread .ensures) (turn .0) (turn .1 .0) (turn .1 .1)
 
-current-kept : (c : tie.After-turn Inv-loop μ-loop) → length (c .turn .last .1 .0) ≡ length (entry (head (reading c)) .args .current .now)
-current-kept c = c .turn .kept .1 .0 ∙ head (reading c) .loop .inv .0
-
-next-kept : (c : tie.After-turn Inv-loop μ-loop) → length (c .turn .last .1 .1 .0) ≡ length (entry (head (reading c)) .args .next .now)
-next-kept c = c .turn .kept .1 .1 .0 ∙ spreading c .spread .kept .1 .1 .1 .1 .1 .1 .0 ∙ head (reading c) .loop .inv .1
+kept : (c : tie.After-turn Inv-loop μ-loop) → SameWork (work-first (begin (head (reading c)))) (work-turned c)
+kept c =
+    let same = head (reading c) .loop .inv .0 in
+    record {
+      current = c .turn .kept .1 .0 ∙ same .current;
+      next = c .turn .kept .1 .1 .0 ∙ spreading c .spread .kept .1 .1 .1 .1 .1 .1 .0 ∙ same .next;
+    }
 
 -- ---- The needs
 
-add-words : tie.Need-add-words Inv-loop μ-loop
-add-words c = search needs
-
-start-requires : tie.Need-start-requires Inv-loop μ-loop
-start-requires c κs = search needs
+few-states : tie.Need-words-requires Inv-loop μ-loop
+few-states c κs = omega (arith, entry c .pre .0 .few-states)
 
 loop-holds : tie.Need-loop-holds Inv-loop μ-loop
-loop-holds c = (refl, refl, λ accepting. walk-at (sym (c .start .ensures)) (walk-start (c .before .before .before .before .before .before .before .pre .1)))
+loop-holds c = (same-work, walk-at (sym (c .start .ensures)) (walk-start (entry (c .before .before) .pre .1)))
 
-step-requires : tie.Need-step-requires Inv-loop μ-loop
-step-requires c κs = search needs
-
-enum-known-byte : tie.Need-enum-known-byte Inv-loop μ-loop
-enum-known-byte c = search needs
-
-enum-told : tie.Need-enum-told Inv-loop μ-loop
-enum-told c = search needs
-
-same-length : tie.Need-same-length Inv-loop μ-loop
-same-length c = c .before .before .before .loop .inv .0
-
-same-length-2 : tie.Need-same-length-2 Inv-loop μ-loop
-same-length-2 c = c .before .before .before .loop .inv .1
-
-returns : tie.Need-returns Inv-loop μ-loop
-returns c = λ accepting.
-    let l = c .before .before .before in
-    walk-whole (l .loop .inv .2 accepting) (at-end-of (text l) (place l) (sym (c .enum-told .given .1) ∙ c .before .before .step .ensures))
+whole : tie.Need-returns Inv-loop μ-loop
+whole c =
+    let at = c .before .before .before in
+    walk-whole (at .loop .inv .1) (step-end (bytes at) (place at) (c .before .before .step .ensures) (c .enum-told .given .1))
 
 spread-requires : tie.Need-spread-requires Inv-loop μ-loop
-spread-requires c κs =
-    let l = c .before .before .before .before .before .before in
-    inside (entry l .pre .0) (l .loop .inv .0) (l .loop .inv .1)
+spread-requires c κs = let at = head (c .before .before .before) in inside (begin at .pre .0) (at .loop .inv .0)
 
 turn-requires : tie.Need-turn-requires Inv-loop μ-loop
 turn-requires c κs =
-    let l = c .before .before .before .before .before .before .before .before .before .before .before in
-    let k = entry l .pre .0 in
-    omega (arith, k .current-words, k .next-words, l .loop .inv .0, l .loop .inv .1, c .before .before .before .before .spread .kept .1 .1 .1 .1 .1 .1 .0)
+    let spread = arcs-passed c .before in
+    let at = head (told spread .before) in
+    let same = at .loop .inv .0 in
+    let enough = begin at .pre .0 .enough in
+    omega (arith, at .before .before .words .ensures, enough .current, enough .next, same .current, same .next, spread .spread .kept .1 .1 .1 .1 .1 .1 .0)
 
-same-length-3 : tie.Need-same-length-3 Inv-loop μ-loop
-same-length-3 c = current-kept (c .before .before .before .before .before)
-
-same-length-4 : tie.Need-same-length-4 Inv-loop μ-loop
-same-length-4 c = next-kept (c .before .before .before .before .before)
-
-returns-2 : tie.Need-returns-2 Inv-loop μ-loop
-returns-2 c = λ accepting.
-    let turn = c .before .before .before .before .before in
-    let l = head (reading turn) in
-    walk-dead (automaton l accepting) (text l) (entry l .pre .0) (l .loop .inv .2 accepting) (read (reading turn) .inside) (turned turn accepting)
-    (not-true _ (c .if1 .taken))
+dead : tie.Need-returns-2 Inv-loop μ-loop
+dead c =
+    let turn = turned (c .before) .before in
+    let at = head (reading turn) in
+    walk-dead (at .loop .inv .1) (read (reading turn) .inside) (moved-on turn) (not-true _ (c .if1 .taken))
 
 loop-less : tie.Need-loop-less Inv-loop μ-loop
 loop-less c =
-    let here = read (reading (c .before .before .before .before .before)) in
-    omega (arith, here .inside, here .further)
+    let here = read (reading (turned (c .before) .before)) in
+    omega (arith, here .inside, here .next)
 
 loop-again : tie.Need-loop-again Inv-loop μ-loop
 loop-again c =
-    let turn = c .before .before .before .before .before in
-    let l = head (reading turn) in
-    let here = read (reading turn) in (
-      current-kept turn,
-      next-kept turn,
-      λ accepting.
-          walk-at (sym (here .further))
-          (walk-more (automaton l accepting) (text l) (entry l .pre .0) (l .loop .inv .2 accepting) (here .inside) (turned turn accepting)
-          (not-false _ (c .if1 .left))),
-    )
+    let turn = turned (c .before) .before in
+    let at = head (reading turn) in
+    let here = read (reading turn) in
+    (kept turn, walk-at (sym (here .next)) (walk-more (at .loop .inv .1) (here .inside) (moved-on turn) (not-false _ (c .if1 .left))))
 
 pub walk-spec : {M : Type 1} → statement M
 walk-spec =
     tie.close
-    (tie.spec
-    Inv-loop
-    μ-loop
-    add-words
-    start-requires
-    loop-holds
-    step-requires
-    enum-known-byte
-    enum-told
-    same-length
-    same-length-2
-    returns
-    spread-requires
-    turn-requires
-    same-length-3
-    same-length-4
-    returns-2
-    loop-less
-    loop-again)
+    (tie.spec Inv-loop μ-loop few-states (λ c κs. search needs) loop-holds (λ c κs. search needs) (λ c. search needs) (λ c. search needs)
+    (λ c. c .before .before .before .loop .inv .0 .current) (λ c. c .before .before .before .loop .inv .0 .next) whole spread-requires turn-requires
+    (λ c. kept (turned (c .before) .before) .current) (λ c. kept (turned (c .before) .before) .next) dead loop-less loop-again)

@@ -1,5 +1,4 @@
 -- The digits of a word and the bits of a column of words: what a store changes, what is set where a word is not 0, and how many.
--- Assumes nothing.
 use Prim.Native.Nat.{ℕ, zero, suc, _+_, _*_, _/_, _%_, _^_, _<_, max}
 use native.Mathlib.Nat.{mod-lt, zero-div, div-self, div-one, zero-add, pow-suc}
 use native.Mathlib.Decide.{ℕ-discrete}
@@ -15,9 +14,11 @@ use lib.Pow.{pow-pos, shr-shr, shr-lt, shl-shr}
 use lib.Bits.{bitOr, or-step, or-shr}
 use lib.Count.{ones, onesIn, ones-step}
 use borrow.Author.Tests.{eq-eqb, ne-eqb, eqb-true, eqb-false}
-use Rattle.theory.specs.Record.{some-below, count-below}
+use Rattle.theory.specs.Column.{zeros}
+use Rattle.theory.specs.Below.{some-below, count-below}
 use Rattle.theory.proofs.Below.{some-front, count-front, some-cong, count-cong, some-add, count-add}
-use Rattle.matcher.specs.Bits.{digit, bit}
+use Rattle.theory.proofs.Column.{getD-zeros}
+use Rattle.sets.specs.Bits.{digit, bit}
 
 -- ---- Digits
 
@@ -124,33 +125,34 @@ pub bit-away : (words : List ℕ) (i v t : ℕ) → (t / 64 ≡ i → ⊥) → b
 unfolding bit
 bit-away words i v t n = ap (λ (w : ℕ). digit w (t % 64)) (getD-set-other words i (t / 64) v 0 n)
 
-pub bit-zeros : (words : List ℕ) (t : ℕ) → getD words (t / 64) 0 ≡ 0 → bit words t ≡ false
+-- Nothing is set in a column that is clear.
+pub none-set : (n : ℕ) {words : List ℕ} → words ≡ zeros n → (t : ℕ) → bit words t ≡ false
 unfolding bit
-bit-zeros words t e = ap (λ (w : ℕ). digit w (t % 64)) e ∙ digit-zero (t % 64)
+none-set n e t = ap (λ (w : ℕ). digit w (t % 64)) (ap (λ (c : List ℕ). getD c (t / 64) 0) e ∙ getD-zeros n (t / 64)) ∙ digit-zero (t % 64)
 
--- A state's digit set in its word: that state's bit is set, and every other is as it was.
-pub bit-mark : (words : List ℕ) (state : ℕ) → state / 64 < length words → (t : ℕ)
-    → bit (set words (state / 64) (bitOr (getD words (state / 64) 0) (2 ^ (state % 64)))) t ≡ (bit words t || eqb t state)
+-- A number's digit set in its word: that number's bit is set, and every other is as it was.
+pub bit-mark : (words : List ℕ) (number : ℕ) → number / 64 < length words → (t : ℕ)
+    → bit (set words (number / 64) (bitOr (getD words (number / 64) 0) (2 ^ (number % 64)))) t ≡ (bit words t || eqb t number)
 unfolding bit
-bit-mark words state l t = go (ℕ-discrete (t / 64) (state / 64)) (ℕ-discrete (t % 64) (state % 64))
+bit-mark words number l t = go (ℕ-discrete (t / 64) (number / 64)) (ℕ-discrete (t % 64) (number % 64))
   where
     marked : List ℕ
-    marked = set words (state / 64) (bitOr (getD words (state / 64) 0) (2 ^ (state % 64)))
+    marked = set words (number / 64) (bitOr (getD words (number / 64) 0) (2 ^ (number % 64)))
 
     word : ℕ
-    word = getD words (state / 64) 0
+    word = getD words (number / 64) 0
 
-    go : Dec (t / 64 ≡ state / 64) → Dec (t % 64 ≡ state % 64) → bit marked t ≡ (bit words t || eqb t state)
+    go : Dec (t / 64 ≡ number / 64) → Dec (t % 64 ≡ number % 64) → bit marked t ≡ (bit words t || eqb t number)
     go (no n) d =
-        bit-away words (state / 64) _ t n ∙ sym (or-false (bit words t))
-        ∙ ap (λ (b : Bool). bit words t || b) (sym (ne-eqb t state (λ e. n (ap (λ (k : ℕ). k / 64) e))))
+        bit-away words (number / 64) _ t n ∙ sym (or-false (bit words t))
+        ∙ ap (λ (b : Bool). bit words t || b) (sym (ne-eqb t number (λ e. n (ap (λ (k : ℕ). k / 64) e))))
     go (yes e) d =
-        bit-here words (state / 64) _ t l e ∙ digit-or word (2 ^ (state % 64)) (t % 64)
+        bit-here words (number / 64) _ t l e ∙ digit-or word (2 ^ (number % 64)) (t % 64)
         ∙ ap₂ _||_ (ap (λ (k : ℕ). digit (getD words k 0) (t % 64)) (sym e)) (low d)
       where
-        low : Dec (t % 64 ≡ state % 64) → digit (2 ^ (state % 64)) (t % 64) ≡ eqb t state
-        low (yes q) = ap (digit (2 ^ (state % 64))) q ∙ digit-self (state % 64) ∙ sym (eq-eqb t state (omega arith))
-        low (no n) = digit-other (state % 64) (t % 64) n ∙ sym (ne-eqb t state (λ q. n (ap (λ (k : ℕ). k % 64) q)))
+        low : Dec (t % 64 ≡ number % 64) → digit (2 ^ (number % 64)) (t % 64) ≡ eqb t number
+        low (yes q) = ap (digit (2 ^ (number % 64))) q ∙ digit-self (number % 64) ∙ sym (eq-eqb t number (omega arith))
+        low (no n) = digit-other (number % 64) (t % 64) n ∙ sym (ne-eqb t number (λ q. n (ap (λ (k : ℕ). k % 64) q)))
 
 -- The 64 bits of word i.
 bit-block : (words : List ℕ) (i j : ℕ) → j < 64 → bit words (i * 64 + j) ≡ digit (getD words i 0) j

@@ -1,26 +1,36 @@
-// A set of states in 64-bit words, one bit per state.
+// Sets of numbers in 64-bit words, one bit per number.
 
 ghost use mathlib.Core.Path.{_≡_};
 ghost use mathlib.Core.Bool.{false, cond, _||_};
 ghost use Prim.Native.Nat.{ℕ, _*_, _/_, _≤_, _<_};
 ghost use lib.ListN.{length};
 ghost use lib.Dec.{eqb, ltb};
-ghost use Rattle.theory.specs.Record.{some-below, count-below};
-ghost use Rattle.matcher.specs.Bits.{bit};
+ghost use Rattle.theory.specs.Limit.{most-states};
+ghost use Rattle.theory.specs.Below.{some-below, count-below};
+ghost use Rattle.theory.specs.Record.{words};
+ghost use Rattle.sets.specs.Bits.{bit};
 
-pub fn marked(words: &[u64], state: usize) -> bool
-    requires { ⌜ state / 64 < length (now words) ⌝ }
-    ensures { λ r. ⌜ r ≡ bit (now (words .entry)) state ⌝ }
+// 01: "the state count divided by 64, rounded up".
+pub fn words(states: usize) -> usize
+    requires { ⌜ states ≤ most-states ⌝ }
+    ensures { λ r. ⌜ r ≡ words states ⌝ }
 {
-    (words[state / 64] >> (state % 64)) % 2 == 1
+    (states + 63) / 64
 }
 
-pub fn mark(words: &mut [u64], state: usize)
-    requires { ⌜ state / 64 < length (now words) ⌝ }
-    ensures { λ _. ⌜ ((t : ℕ) → bit (now (words .exit)) t ≡ (bit (now (words .entry)) t || eqb t state)) ⌝ }
+pub fn marked(words: &[u64], number: usize) -> bool
+    requires { ⌜ number / 64 < length (now words) ⌝ }
+    ensures { λ r. ⌜ r ≡ bit (now (words .entry)) number ⌝ }
 {
-    let word = state / 64;
-    words[word] = words[word] | (1u64 << (state % 64));
+    (words[number / 64] >> (number % 64)) % 2 == 1
+}
+
+pub fn mark(words: &mut [u64], number: usize)
+    requires { ⌜ number / 64 < length (now words) ⌝ }
+    ensures { λ _. ⌜ ((t : ℕ) → bit (now (words .exit)) t ≡ (bit (now (words .entry)) t || eqb t number)) ⌝ }
+{
+    let word = number / 64;
+    words[word] = words[word] | (1u64 << (number % 64));
 }
 
 // The set bits of the first n words. 1,024 words hold every state that 01 allows.

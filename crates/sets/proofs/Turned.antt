@@ -1,4 +1,4 @@
--- One set of states handed over to another, word by word: what the two columns hold on the way. Assumes nothing.
+-- One set handed over to another, word by word: what the two columns hold on the way.
 use Prim.Native.Nat.{ℕ, _+_, _*_, _/_, _%_, _^_, _≤_, _<_}
 use native.Mathlib.Decide.{ℕ-discrete}
 use native.Mathlib.Omega.{arith}
@@ -9,9 +9,9 @@ use lib.ListN.{length, getD, set, length-set}
 use lib.Seq.{getD-set-other}
 use lib.Dec.{eqb, ltb}
 use borrow.Author.Tests.{lt-ltb, le-ltb, ltb-true, ltb-false}
-use Rattle.theory.specs.Record.{some-below}
-use Rattle.matcher.specs.Bits.{digit, bit}
-use Rattle.matcher.proofs.Words.{bit-here, bit-away, digit-zero, some-block}
+use Rattle.theory.specs.Below.{some-below}
+use Rattle.sets.specs.Bits.{digit, bit}
+use Rattle.sets.proofs.Digits.{bit-here, bit-away, digit-zero, some-block}
 
 -- The first i words of `next₀` stand in `current`, and are cleared in `next`; `any` says whether one of their bits was set.
 pub record Turned (current₀ next₀ current next : List ℕ) (any : Bool) (i : ℕ) : Type 0 where
