@@ -3,6 +3,7 @@ pub mod Examples
 pub mod Printed
 pub mod Limits
 pub mod DemandOne
+pub mod JudgesSo
 pub mod Handing
 pub mod DemandTwo
 pub mod DemandThree

@@ -6,11 +6,13 @@ use mathlib.Core.List.{List, [], _∷_}
 use lib.ListN.{length}
 use lib.Dec.{eqb}
 use Rattle.theory.specs.Column.{zeros}
+use Rattle.theory.specs.Limit.{most-entries}
 use Rattle.theory.specs.Refusal.{Refusal, refusal, success, room-small}
 use Rattle.theory.specs.Automaton.{states, expressions, arcs}
 use Rattle.theory.specs.Table.{Table, table, columns, tree, table-refusal}
 use Rattle.theory.specs.Grammar.{Text, Reading, read, refused, rows}
 use Rattle.theory.specs.Scan.{scan}
+use Rattle.theory.specs.Arcs.{arc-columns}
 use Rattle.theory.specs.Build.{Lent, lent, build-refusal}
 use Rattle.theory.specs.Record.{automaton, Verdict, accepted, unfinished, wrong, verdict, live}
 
@@ -49,7 +51,7 @@ table-of (refused r) = columns []
 
 -- 01, "Two programs": rooms of 1,024 expressions and 4,096 arcs.
 unfoldable pub with-room : ℕ → Lent
-with-room n = lent (table (zeros 1024) (zeros 1024) (zeros 1024)) (zeros n) (zeros n) (zeros 4096) (zeros 4096) (zeros 4096)
+with-room n = lent (table (zeros 1024) (zeros 1024) (zeros 1024)) (zeros n) (zeros n) (arc-columns (zeros 4096) (zeros 4096) (zeros 4096))
 
 unfoldable pub holds-of : Claim → Table → Bool
 unfolding tree table-refusal states expressions arcs automaton verdict live same-verdict same-refusal build-refusal with-room
@@ -62,7 +64,7 @@ holds-of (with-states room r) t = same-refusal (build-refusal t (with-room room)
 unfoldable pub all-hold : List Line → Bool
 unfolding table-of holds-of scan
 all-hold [] = true
-all-hold (l ∷ ls) = holds-of (l .claim) (table-of (scan 512 (l .text))) && all-hold ls
+all-hold (l ∷ ls) = holds-of (l .claim) (table-of (scan most-entries (l .text))) && all-hold ls
 
 unfoldable pub examples : List Line
 examples =

@@ -2,6 +2,7 @@ pub mod Reader
 pub mod Table
 pub mod Builder
 pub mod Matcher
+pub mod JudgesSo
 pub mod Examples
 pub mod Printed
 pub mod Limits
@@ -9,4 +10,5 @@ pub mod DemandOne
 pub mod DemandTwo
 pub mod DemandThree
 pub mod ReadThenBuild
+pub mod TextToVerdict
 pub mod Once

@@ -4,6 +4,8 @@ use mathlib.Core.Path.{_≡_}
 use mathlib.Core.Bool.{true}
 use mathlib.Core.List.{List·Memᴰ}
 use Rattle.theory.specs.Refusal.{Refusal, refusal, success, columns-differ, table-empty, table-long, kind-unknown, field-outside, child-not-smaller, empty-language-inside, not-named-once}
+use Rattle.theory.specs.Kind as Kind
+use Rattle.theory.specs.Limit.{most-entries}
 use Rattle.theory.specs.Table.{Table, Row, row, size, meaning, fields-fit, row-children, times, named, SameLengths, Faultless, WellFormed}
 
 -- The fields of a row that hold no child are as 01's table of kinds has them, or they are not.
@@ -12,16 +14,16 @@ FieldsFit w = fields-fit (meaning (w .kind)) (w .left) (w .right) ≡ true
 
 -- `EntryCause n i w k`: entry i of a table of n, the row w, gives cause for the refusal k. Each is due only where those before it are not.
 pub data EntryCause (n i : ℕ) (w : Row) : ℕ → Type 0 where
-  unknown : 6 < w .kind → EntryCause n i w kind-unknown
-  outside : w .kind ≤ 6 → ¬ FieldsFit w → EntryCause n i w field-outside
-  not-smaller : w .kind ≤ 6 → FieldsFit w → (c : ℕ) → List·Memᴰ c (row-children w) → i ≤ c → EntryCause n i w child-not-smaller
-  inside : w .kind ≡ 0 → FieldsFit w → 1 < n → EntryCause n i w empty-language-inside
+  unknown : Kind.last < w .kind → EntryCause n i w kind-unknown
+  outside : w .kind ≤ Kind.last → ¬ FieldsFit w → EntryCause n i w field-outside
+  not-smaller : w .kind ≤ Kind.last → FieldsFit w → (c : ℕ) → List·Memᴰ c (row-children w) → i ≤ c → EntryCause n i w child-not-smaller
+  inside : w .kind ≡ Kind.empty-language → FieldsFit w → 1 < n → EntryCause n i w empty-language-inside
 
 -- 1, 2 and 3 are not due.
 pub record Sized (g : Table) : Type 0 where
   pub even : SameLengths g
   pub nonempty : 0 < size g
-  pub short : size g ≤ 512
+  pub short : size g ≤ most-entries
 
 -- Nothing is wrong with the entries before p.
 abbrev pub FaultlessBefore : Table → ℕ → Type 0
@@ -35,7 +37,7 @@ NamedOnce g i = times i (named g (size g)) ≡ 1
 pub data TableCause (g : Table) : Refusal → Type 0 where
   differ : ¬ SameLengths g → TableCause g (refusal columns-differ 0)
   empty : SameLengths g → size g ≡ 0 → TableCause g (refusal table-empty 0)
-  long : SameLengths g → 512 < size g → TableCause g (refusal table-long 0)
+  long : SameLengths g → most-entries < size g → TableCause g (refusal table-long 0)
   entry : {k : ℕ} → Sized g → (p : ℕ) → p < size g → FaultlessBefore g p → EntryCause (size g) p (row g p) k → TableCause g (refusal k p)
   not-once : Sized g → FaultlessBefore g (size g) → (p : ℕ) → p < pred (size g) → ((i : ℕ) → i < p → NamedOnce g i) → ¬ NamedOnce g p
       → TableCause g (refusal not-named-once p)

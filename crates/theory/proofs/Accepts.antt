@@ -1,22 +1,27 @@
--- The automaton of an expression accepts exactly its language (004's Proposition 5), over its list of arcs. Leans on `Accepts.Arcs`, and on
--- `Language`: the test for the empty word and the derivative are right.
+-- The automaton of an expression accepts exactly its language (004's Proposition 5), over its list of arcs and over any columns that hold it.
+-- Leans on `Accepts.Arcs`, on `Language`: the test for the empty word and the derivative are right, and on `Verdicts`.
 use Prim.Native.Nat.{ℕ, _≤_, _<_}
 use native.Mathlib.Nat.{lt-of-not-le}
 use native.Mathlib.Omega.{arith}
 use mathlib.Core.Path.{_≡_, refl, sym, ap, _∙_, subst}
-use mathlib.Core.Logic.{_↔_, Iff·trans}
+use mathlib.Core.Logic.{_↔_, Iff·symm, Iff·trans}
 use mathlib.Core.Bool.{Bool, true, false, cond}
-use mathlib.Core.List.{[], _∷_, List·Memᴰ}
+use mathlib.Core.List.{List, [], _∷_, List·Memᴰ}
 use lib.ListN.{length, getD, length-map, List·getD-map, List·getD-eq-default}
 use Rattle.theory.specs.Expression.{Expression, ∅, same}
 use Rattle.theory.specs.Distinct.{place}
 use Rattle.theory.specs.Language.{Word, In}
 use Rattle.theory.specs.Derivative.{empty-word, derivative}
-use Rattle.theory.specs.Automaton.{states, accepting, arcs, Leads}
+use Rattle.theory.specs.Automaton.{states, accepting, Arc, arc, arcs, Leads}
+use Rattle.theory.specs.Arcs.{arc-at, used}
+use Rattle.theory.specs.Record.{Handed, automaton, accepts, verdict, live}
+use Rattle.theory.specs.Verdict.{Accepted}
 use Rattle.theory.proofs.Distinct.{place-below, at-place}
 use Rattle.theory.proofs.Language.{empty-word-right, derivative-right}
 use Rattle.theory.proofs.States.{states-zero, states-some}
 use Rattle.theory.proofs.WellFormed.{Lettered}
+use Rattle.theory.proofs.Arcs.{used-are}
+use Rattle.theory.proofs.Verdicts.{accepts-iff, verdict-cong, live-cong}
 use Arcs.{arcs-of, in-alphabet, member-state, to-arcs, arcs-end}
 pub mod Arcs
 
@@ -92,3 +97,51 @@ module _ (e : Expression) (good : Lettered e) where
 
 pub leads-language : (e : Expression) → Lettered e → (w : Word) → ((j : ℕ) × Leads (arcs e) 0 w j × (getD (accepting e) j 0 ≡ 1)) ↔ In e w
 leads-language e good w = subst (λ x. Read e 0 w ↔ In x w) (states-zero e ∅) (read-language e good w 0 (states-some e))
+
+-- ---- Over columns
+
+-- h is the automaton of e, whatever its columns hold beyond the counts.
+pub record IsAutomaton (e : Expression) (h : Handed) : Type 0 where
+  pub as-many : h .states ≡ length (states e)
+  pub flags : (t : ℕ) → t < length (states e) → getD (h .accepting) t 0 ≡ getD (accepting e) t 0
+  pub arcs : used (h .arcs) ≡ arcs e
+
+module _ {e : Expression} {h : Handed} (is : IsAutomaton e h) where
+  pub leads-iff : (w : Word) (t : ℕ) → Leads (used (h .arcs)) 0 w t ↔ Leads (arcs e) 0 w t
+  leads-iff w t =
+      (subst (λ (zs : List Arc). Leads zs 0 w t) (is .arcs), subst (λ (zs : List Arc). Leads zs 0 w t) (sym (is .arcs)))
+
+  accepted-iff : (w : Word) → Accepted h w ↔ Read e 0 w
+  accepted-iff w = (
+    λ (t, m, l, q). (t, (leads-iff w t) .0 m, sym (is .flags t (subst (λ (n : ℕ). t < n) (is .as-many) l)) ∙ q),
+    λ (t, m, q).
+        let l = accepting-below e t q in
+        (t, (leads-iff w t) .1 m, subst (λ (n : ℕ). t < n) (sym (is .as-many)) l, is .flags t l ∙ q),
+  )
+
+  pub accepted-language : Lettered e → (w : Word) → Accepted h w ↔ In e w
+  accepted-language good w = Iff·trans (accepted-iff w) (leads-language e good w)
+
+module _ {e : Expression} {h k : Handed} (is : IsAutomaton e h) (also : IsAutomaton e k) (w : Word) where
+  -- Verdict and live are the expression's own.
+  pub verdict-own : verdict h w ≡ verdict k w
+  verdict-own =
+      verdict-cong h k
+      (λ u. (λ (t, m). (t, (leads-iff also u t) .1 ((leads-iff is u t) .0 m)), λ (t, m). (t, (leads-iff is u t) .1 ((leads-iff also u t) .0 m))))
+      (λ u. Iff·trans (accepted-iff is u) (Iff·symm (accepted-iff also u))) w
+
+  pub live-own : live h w ≡ live k w
+  live-own = live-cong h k (is .as-many ∙ sym (also .as-many)) (λ u t. Iff·trans (leads-iff is u t) (Iff·symm (leads-iff also u t))) w
+
+-- The automaton with nothing beyond the counts.
+pub automaton-is : (e : Expression) → IsAutomaton e (automaton e)
+unfolding automaton
+automaton-is e = record { as-many = refl; flags = λ t _. refl; arcs = used-are _ (arcs e) at }
+  where
+    at : (i : ℕ) → arc-at (automaton e .arcs .columns) i ≡ getD (arcs e) i (arc 0 0 0)
+    at i =
+        λ k. arc (List·getD-map (λ (z : Arc). z .from) (arcs e) i (arc 0 0 0) k) (List·getD-map (λ (z : Arc). z .letter) (arcs e) i (arc 0 0 0) k)
+        (List·getD-map (λ (z : Arc). z .to) (arcs e) i (arc 0 0 0) k)
+
+pub accepts-language : (e : Expression) → Lettered e → (w : Word) → (accepts (automaton e) w ≡ true) ↔ In e w
+accepts-language e good w = Iff·trans (accepts-iff (automaton e) w) (accepted-language (automaton-is e) good w)

@@ -1,12 +1,14 @@
 -- Any columns read as arcs: the states that a record reaches are those to which the used arcs lead, and the first byte after which none is
 -- reached is the first from which no used arc leads on. Nothing is asked of the columns.
-use Prim.Native.Nat.{ℕ, zero, suc, _<_}
+use Prim.Native.Nat.{ℕ, zero, suc, _≤_, _<_}
 use native.Mathlib.Nat.{le-refl, le-step, le-of-suc-le-suc, not-suc-le-zero, eq-or-lt-of-le}
-use mathlib.Core.Path.{_≡_, refl, sym, ap, _∙_, subst}
+use native.Mathlib.Omega.{arith}
+use mathlib.Core.Path.{_≡_, refl, sym, ap, ap₂, _∙_, subst}
 use mathlib.Core.Logic.{_↔_, Iff·trans, ⊎-elim}
 use mathlib.Core.Bool.{Bool, true, false, false≢true, and-eq-true-iff}
-use mathlib.Core.List.{[], _∷_, List·Memᴰ, List·Memᴰ·head, List·Memᴰ·not-nil, List·Memᴰ·eq-of-singleton, List·Memᴰ·append-cases, Memᴰ·append-left, Memᴰ·append-right}
-use lib.ListN.{getD}
+use mathlib.Core.List.{List, [], _∷_, _++_, List·Memᴰ, List·Memᴰ·head, List·Memᴰ·not-nil, List·Memᴰ·eq-of-singleton, List·Memᴰ·append-cases, Memᴰ·append-left, Memᴰ·append-right}
+use lib.ListN.{length, getD, take}
+use lib.Seq.{take-suc, take-length}
 use lib.Dec.{eqb}
 use borrow.Author.Tests.{eqb-true, eq-eqb}
 use Rattle.theory.specs.Language.{Word}
@@ -40,6 +42,16 @@ module _ (c : ArcColumns) where
   to-first (suc n) i l =
       ⊎-elim (λ e. Memᴰ·append-right (first-arcs c n) (List·Memᴰ·head (ap (arc-at c) e))) (λ m. Memᴰ·append-left (arc-at c n ∷ []) (to-first n i m))
       (eq-or-lt-of-le (le-of-suc-le-suc l))
+
+  first-are : (zs : List Arc) → ((i : ℕ) → arc-at c i ≡ getD zs i (arc 0 0 0)) → (n : ℕ) → n ≤ length zs → first-arcs c n ≡ take n zs
+  unfolding first-arcs
+  first-are zs e zero l = refl
+  first-are zs e (suc n) l =
+      ap₂ (λ (ys : List Arc) (y : Arc). ys ++ (y ∷ [])) (first-are zs e n (omega arith)) (e n) ∙ sym (take-suc zs n (arc 0 0 0) l)
+
+  -- Columns that hold these arcs, as many as are counted.
+  pub used-are : (zs : List Arc) → ((i : ℕ) → arc-at c i ≡ getD zs i (arc 0 0 0)) → first-arcs c (length zs) ≡ zs
+  used-are zs e = first-are zs e (length zs) (le-refl (length zs)) ∙ take-length zs
 
   -- ---- One arc
 

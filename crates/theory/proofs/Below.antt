@@ -65,16 +65,6 @@ unfolding all-below
 all-each zero p h = refl
 all-each (suc n) p h = ap₂ _&&_ (all-each n p (λ k l. h k (omega arith))) (h n (le-refl (suc n)))
 
-pub all-false : (n : ℕ) (p : ℕ → Bool) → all-below n p ≡ false → (k : ℕ) × (k < n) × (p k ≡ false)
-unfolding all-below
-all-false zero p e = absurd (false≢true (sym e))
-all-false (suc n) p e = go (all-below n p) refl e (all-false n p)
-  where
-    go : (b : Bool) → all-below n p ≡ b → (b && p n) ≡ false → (all-below n p ≡ false → (k : ℕ) × (k < n) × (p k ≡ false))
-        → (k : ℕ) × (k < suc n) × (p k ≡ false)
-    go true q h ih = (n, le-refl (suc n), h)
-    go false q h ih = let (k, l, f) = ih q in (k, le-step l, f)
-
 pub some-none : (n : ℕ) (p : ℕ → Bool) → ((k : ℕ) → k < n → p k ≡ false) → some-below n p ≡ false
 unfolding some-below
 some-none zero p h = refl
@@ -85,6 +75,16 @@ unfolding count-below
 count-none zero p h = refl
 count-none (suc n) p h =
     ap₂ (λ (b : Bool) (c : ℕ). cond b (suc c) c) (h n (le-refl (suc n))) (count-none n p (λ k l. h k (omega arith)))
+
+-- What can be decided of each number holds of all below n, or fails at one.
+pub each-below : (n : ℕ) (P : ℕ → Type 0) → ((k : ℕ) → Dec (P k)) → ((k : ℕ) → k < n → P k) ⊎ ((k : ℕ) × (k < n) × ¬ P k)
+each-below zero P d = inl (λ k l. absurd (not-suc-le-zero l))
+each-below (suc n) P d = go (d n) (each-below n P d)
+  where
+    go : Dec (P n) → ((k : ℕ) → k < n → P k) ⊎ ((k : ℕ) × (k < n) × ¬ P k) → ((k : ℕ) → k < suc n → P k) ⊎ ((k : ℕ) × (k < suc n) × ¬ P k)
+    go (no f) r = inr (n, le-refl (suc n), f)
+    go (yes p) (inl h) = inl (λ k l. ⊎-elim (λ e. subst P (sym e) p) (h k) (eq-or-lt-of-le (le-of-suc-le-suc l)))
+    go (yes p) (inr (k, l, f)) = inr (k, le-step l, f)
 
 -- ---- In two parts
 
@@ -105,11 +105,7 @@ count-add m (suc n) p = rw add-suc (go (p (m + n)) (count-add m n p))
     go true e = omega arith
     go false e = e
 
--- Where p holds of nothing from n on, a longer test says the same.
-pub some-longer : (n m : ℕ) (p : ℕ → Bool) → n ≤ m → ((k : ℕ) → n ≤ k → p k ≡ false) → some-below m p ≡ some-below n p
-unfolding some-below
-some-longer n m p l h = le-ind (λ (k : ℕ). some-below k p ≡ some-below n p) refl (λ k nk e. ap₂ _||_ e (h k nk) ∙ or-false (some-below n p)) m l
-
+-- Where p holds of nothing from n on, a longer count says the same.
 pub count-longer : (n m : ℕ) (p : ℕ → Bool) → n ≤ m → ((k : ℕ) → n ≤ k → p k ≡ false) → count-below m p ≡ count-below n p
 unfolding count-below
 count-longer n m p l h =

@@ -3,7 +3,8 @@ use Prim.Native.Nat.{ℕ, zero, suc, _-_, _≤_}
 use native.Mathlib.Omega.{arith}
 use mathlib.Core.Path.{_≡_, refl}
 use mathlib.Core.List.{List, [], _∷_, _++_}
-use lib.ListN.{length, getD, length-append, length-replicate}
+use lib.ListN.{length, getD, take, length-append, length-replicate}
+use lib.Seq.{take-append-seam}
 use Rattle.theory.specs.Column.{zeros, filled}
 
 pub getD-zeros : (n i : ℕ) → getD (zeros n) i 0 ≡ 0
@@ -20,6 +21,9 @@ getD-more (x ∷ xs) n (suc i) = getD-more xs n i
 module _ (n : ℕ) (xs : List ℕ) where
   pub getD-filled : (i : ℕ) → getD (filled n xs) i 0 ≡ getD xs i 0
   getD-filled i = getD-more xs (n - length xs) i
+
+  pub take-filled : take (length xs) (filled n xs) ≡ xs
+  take-filled = take-append-seam xs (zeros (n - length xs))
 
   pub filled-length : length xs ≤ n → length (filled n xs) ≡ n
   filled-length l = simp (length-append, length-replicate) (omega arith)

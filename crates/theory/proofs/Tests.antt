@@ -1,6 +1,6 @@
 -- Boolean tests that fail or pass: which part of a conjunction or of a disjunction it is.
 use mathlib.Core.Path.{_≡_, refl, sym}
-use mathlib.Core.Logic.{_⊎_, inl, inr}
+use mathlib.Core.Logic.{_⊎_, inl, inr, _↔_}
 use mathlib.Core.Bool.{Bool, true, false, _&&_, _||_, false≢true}
 
 pub and-left : (a b : Bool) → (a && b) ≡ true → a ≡ true
@@ -35,6 +35,10 @@ or-right false b e = e
 pub false-of : (b : Bool) → (b ≡ true → ⊥) → b ≡ false
 false-of true n = absurd (n refl)
 false-of false n = refl
+
+pub same-test : (a b : Bool) → ((a ≡ true) ↔ (b ≡ true)) → a ≡ b
+same-test true b e = sym (e .0 refl)
+same-test false b e = sym (false-of b (λ h. false≢true (e .1 h)))
 
 pub true-of : (b : Bool) → (b ≡ false → ⊥) → b ≡ true
 true-of true n = refl

@@ -4,7 +4,7 @@ use Prim.Native.Nat.{ℕ, suc, _+_, _-_, _≤_, _<_, zero-le, suc-le-suc}
 use native.Mathlib.Nat.{add-zero, zero-add, add-suc, suc-add, lt-of-not-le, le-antisymm}
 use native.Mathlib.Omega.{arith, by-contra}
 use mathlib.Core.Path.{_≡_, refl, sym, ap, _∙_, subst}
-use mathlib.Core.Logic.{_↔_, Iff·trans}
+use mathlib.Core.Logic.{_↔_, Iff·symm, Iff·trans}
 use mathlib.Core.Bool.{Bool, true, false, cond, _&&_, false≢true, and-eq-true-iff}
 use mathlib.Core.List.{List, [], _∷_, _++_}
 use mathlib.Core.Option.{Option, none, some}
@@ -14,11 +14,12 @@ use lib.Dec.{eqb}
 use borrow.Author.Tests.{eqb-true, eq-eqb}
 use Rattle.theory.specs.Language.{Word}
 use Rattle.theory.specs.Automaton.{Arc, Leads}
-use Rattle.theory.specs.Below.{some-below}
+use Rattle.theory.specs.Below.{some-below, count-below}
 use Rattle.theory.specs.Arcs.{Arcs, used, States, start, moved, after, reached, leads-on, dead-at}
 use Rattle.theory.specs.Record.{Handed, Verdict, accepted, unfinished, wrong, accepts, verdict, live, WellFormedAutomaton}
 use Rattle.theory.specs.Verdict.{Says, Alive, Accepted, SaysOf, Live}
-use Rattle.theory.proofs.Below.{some-at, some-of, count-none, how-many-once, how-many-cong, count-how-many}
+use Rattle.theory.proofs.Below.{some-at, some-of, count-cong, count-none, how-many-once, how-many-cong, count-how-many}
+use Rattle.theory.proofs.Tests.{same-test}
 use Rattle.theory.proofs.Arcs.{leads-on-iff, reached-iff}
 use Rattle.theory.proofs.Reached.{start-below, after-below, dead-cons, dead-after, moved-none}
 
@@ -146,6 +147,15 @@ pub verdict-cong : (h k : Handed) → ((u : Word) → Alive (h .arcs) u ↔ Aliv
 verdict-cong h k s a w = sym ((verdict-says k w (verdict h w)) .1 (says-cong s a w (verdict h w) (says-true h w)))
 
 -- ---- Live
+
+-- Automata with as many states, of which a record reaches the same, have the same live.
+pub live-cong : (h k : Handed) → h .states ≡ k .states → ((u : Word) (t : ℕ) → Leads (used (h .arcs)) 0 u t ↔ Leads (used (k .arcs)) 0 u t)
+    → (w : Word) → live h w ≡ live k w
+unfolding live
+live-cong h k n e w =
+    count-cong (h .states) _ _
+    (λ t _. same-test _ _ (Iff·trans (reached-iff (h .arcs) w t) (Iff·trans (e w t) (Iff·symm (reached-iff (k .arcs) w t)))))
+    ∙ ap (λ (m : ℕ). count-below m (reached (k .arcs) w)) n
 
 module _ (h : Handed) (good : WellFormedAutomaton h) where
   reached-below : (w : Word) (t : ℕ) → reached (h .arcs) w t ≡ true → t < h .states

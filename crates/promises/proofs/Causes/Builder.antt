@@ -1,6 +1,5 @@
 -- The builder's refusals have their causes. Leans on `Causes.Table` for the given table.
 use Prim.Native.Nat.{_≤_}
-use native.Mathlib.Nat.{le-trans}
 use native.Mathlib.Decide.{ℕ-discrete}
 use native.Mathlib.Omega.{arith}
 use mathlib.Core.Path.{_≡_, refl, sym, ap, _∙_}
@@ -11,7 +10,7 @@ use Rattle.theory.specs.Automaton.{states, arcs, expressions}
 use Rattle.theory.specs.Build.{Lent, Counts, counts, Built, even, over-room, build-refusal, EvenLent}
 use Rattle.theory.proofs.Tests.{false-of}
 use Rattle.theory.proofs.Answers.{counts-built, counts-refused}
-use Rattle.theory.proofs.Room.{even-passed, even-passes, over-found, over-passes, ordered, refusal-by}
+use Rattle.theory.proofs.BuilderRefusal.{even-iff, over-iff, ordered, refusal-by}
 use Rattle.promises.specs.Table as Tables
 use Rattle.promises.specs.Table.{TableCause}
 use Rattle.promises.specs.Builder.{BuilderCause, differ, table, room, none, BuilderMeets}
@@ -26,24 +25,24 @@ module _ (g : Table) (c : Lent) where
   builder-caused = go (even c) (over-room (tree g) c) refl refl (table-caused g)
     where
       fits : (over : Bool) → EvenLent c → over-room (tree g) c ≡ over → WellFormed g → BuilderCause g c (cond over (refusal room-small 0) success)
-      fits true v o w = room v w (over-found (tree g) c o)
-      fits false v o w = none v w (λ l. false≢true (sym o ∙ over-passes (tree g) c l))
+      fits true v o w = room v w ((over-iff (tree g) c) .0 o)
+      fits false v o w = none v w (λ l. false≢true (sym o ∙ (over-iff (tree g) c) .1 l))
 
       go : (b over : Bool) {r : Refusal} → even c ≡ b → over-room (tree g) c ≡ over → TableCause g r → BuilderCause g c (ordered b r over)
-      go false over q o t = differ (λ v. false≢true (sym q ∙ even-passes c v))
+      go false over q o t = differ (λ v. false≢true (sym q ∙ (even-iff c) .1 v))
       go true over {r} q o t = decide (ℕ-discrete (r .number) 0)
         where
           decide : Dec (r .number ≡ 0) → BuilderCause g c (or-else r (cond over (refusal room-small 0) success))
-          decide (yes z) = let (w, s) = table-clear g t z in rw s (fits over (even-passed c q) o w)
-          decide (no n) = rw (stands r (cond over (refusal room-small 0) success) n) (table (even-passed c q) t n)
+          decide (yes z) = let (w, s) = table-clear g t z in rw s (fits over ((even-iff c) .0 q) o w)
+          decide (no n) = rw (stands r (cond over (refusal room-small 0) success) n) (table ((even-iff c) .0 q) t n)
 
   pub builder-due : {r : Refusal} → BuilderCause g c r → build-refusal g c ≡ r
-  builder-due (differ n) = refusal-by g c (false-of (even c) (λ q. n (even-passed c q))) refl refl
-  builder-due (table {r} v t n) = refusal-by g c (even-passes c v) (table-due g t) refl ∙ stands r _ n
-  builder-due (room v w o) = refusal-by g c (even-passes c v) (table-due g (Tables.none w)) (over-passes (tree g) c o)
-  builder-due (none v w n) = refusal-by g c (even-passes c v) (table-due g (Tables.none w)) (false-of _ (λ q. n (over-found (tree g) c q)))
+  builder-due (differ n) = refusal-by g c (false-of (even c) (λ q. n ((even-iff c) .0 q))) refl refl
+  builder-due (table {r} v t n) = refusal-by g c ((even-iff c) .1 v) (table-due g t) refl ∙ stands r _ n
+  builder-due (room v w o) = refusal-by g c ((even-iff c) .1 v) (table-due g (Tables.none w)) ((over-iff (tree g) c) .1 o)
+  builder-due (none v w n) = refusal-by g c ((even-iff c) .1 v) (table-due g (Tables.none w)) (false-of _ (λ q. n ((over-iff (tree g) c) .0 q)))
 
-  pub builder-numbered : {r : Refusal} → BuilderCause g c r → r .number ≤ 9
+  pub builder-numbered : {r : Refusal} → BuilderCause g c r → r .number ≤ room-small
   builder-numbered (differ n) = omega arith
   builder-numbered (table v t n) = let l = table-numbered g t in omega arith
   builder-numbered (room v w o) = omega arith
@@ -71,7 +70,7 @@ builder-number h = ap (λ (r : Refusal). r .number) (builder-answers h)
 pub builder-meets : {g : Table} {c : Lent} {answer : Counts} {c′ : Lent} → Built g c answer c′ → BuilderMeets g c answer c′
 builder-meets {g} {c} {answer} h = record {
   exact = exactly (BuilderCause g c) (builder-answers h) (builder-caused g c) (λ r. builder-due g c);
-  numbered = rw (builder-answers h) (le-trans (builder-numbered g c (builder-caused g c)) (omega arith));
+  numbered = rw (builder-answers h) (let l = builder-numbered g c (builder-caused g c) in omega arith);
   counts = λ n. let e = h .answers ∙ counts-refused g c (again n) in
       (ap (λ (a : Counts). a .states) e, ap (λ (a : Counts). a .expressions) e, ap (λ (a : Counts). a .arcs) e);
   columns = λ n. h .refused (again n);

@@ -1,4 +1,4 @@
--- What it takes that a refusal is given exactly where there is cause for it. Assumes nothing.
+-- What it takes that a refusal is given exactly where there is cause for it.
 use mathlib.Core.Path.{_≡_, sym, _∙_, subst}
 use mathlib.Core.Logic.{_↔_}
 use Rattle.theory.specs.Refusal.{Refusal}

@@ -1,191 +1,144 @@
--- The matcher's refusals have their causes. Assumes nothing.
+-- The matcher's refusals have their causes. Leans on `MatcherRefusal` of the theory for what the tests mean.
 use Prim.Native.Nat.{ℕ, _≤_, _<_}
-use native.Mathlib.Nat.{le-trans}
-use native.Mathlib.Decide.{ℕ-discrete}
-use native.Mathlib.Omega.{arith}
-use mathlib.Core.Path.{_≡_, refl, sym, ap, _∙_}
+use native.Mathlib.Nat.{lt-of-not-le}
+use native.Mathlib.Decide.{ℕ-discrete, decLe, decLt}
+use native.Mathlib.Omega.{arith, by-contra}
+use mathlib.Core.Path.{_≡_, refl, sym, ap, _∙_, subst}
 use mathlib.Core.Logic.{_⊎_, inl, inr, ⊎-elim}
-use mathlib.Core.Bool.{Bool, true, false, cond, not, _&&_, _||_, false≢true}
-use mathlib.Core.List.{List}
+use mathlib.Core.Bool.{Bool, true, false, false≢true}
 use lib.ListN.{length, getD}
-use lib.Dec.{eqb, leb, ltb}
-use borrow.Author.Tests.{eqb-true, eqb-false, eq-eqb, leb-true, leb-false, ltb-true, ltb-false, lt-ltb, le-ltb, not-true, not-false}
-use Rattle.theory.specs.Refusal.{Refusal, refusal, success, columns-differ, automaton-malformed, work-short}
+use Rattle.theory.specs.Limit.{most-states, most-arcs}
+use Rattle.theory.specs.Refusal.{Refusal, refusal, success, work-short}
 use Rattle.theory.specs.Language.{Word}
+use Rattle.theory.specs.Arcs.{even-arcs}
+use Rattle.theory.specs.Record.{Handed, Work, short, Verdict, accepted, unfinished, wrong, verdict, live, well-formed, WellFormedAutomaton, matcher-refusal}
 use Rattle.theory.specs.Judge.{Judgement, Judged, judgement, given}
-use Rattle.theory.specs.Record.{Handed, Verdict, accepted, unfinished, wrong, verdict, live, words, states-fit, arcs-fit, accepting-fits, ends-fit, well-formed, matcher-refusal}
 use Rattle.theory.proofs.Answers.{judgement-given, judgement-refused}
-use Rattle.theory.proofs.Below.{all-at}
-use Rattle.theory.proofs.Tests.{and-left, and-right, and-false, or-true, or-of, or-left, or-right, false-of, true-of, all-false}
-use Rattle.promises.specs.Matcher.{EvenArcs, Malformed, no-state, many-states, states-beyond, arcs-beyond, many-arcs, accepting-value, from-beyond, to-beyond, letter-zero, MatcherCause, differ, malformed, short, none, MatcherMeets}
+use Rattle.theory.proofs.Arcs.{even-arcs-iff}
+use Rattle.theory.proofs.Below.{each-below}
+use Rattle.theory.proofs.Tests.{false-of, true-of}
+use Rattle.theory.proofs.MatcherRefusal.{well-formed-iff, short-iff, ordered, refusal-by}
+use Rattle.promises.specs.Matcher as Causes
+use Rattle.promises.specs.Matcher.{Malformed, no-state, many-states, states-beyond, arcs-beyond, many-arcs, accepting-value, from-beyond, to-beyond, letter-zero, MatcherCause, differ, malformed, none, MatcherMeets}
 use Rattle.promises.proofs.Causes.Exactly.{exactly}
 
 -- ---- Refusal 10
 
 module _ (h : Handed) where
-  -- What a test that fails has found.
+  abbrev from : ℕ → ℕ
+  from i = getD (h .arcs .columns .from) i 0
 
-  states-found : states-fit h ≡ false → Malformed h
-  unfolding states-fit
-  states-found e =
-      ⊎-elim (λ f. ⊎-elim (λ z. no-state (eqb-true (h .states) 0 (not-false _ z))) (λ m. many-states (leb-false (h .states) 65535 m))
-      (and-false (not (eqb (h .states) 0)) (leb (h .states) 65535) f)) (λ b. states-beyond (leb-false (h .states) (length (h .accepting)) b))
-      (and-false (not (eqb (h .states) 0) && leb (h .states) 65535) (leb (h .states) (length (h .accepting))) e)
+  abbrev to : ℕ → ℕ
+  to i = getD (h .arcs .columns .to) i 0
 
-  arcs-found : arcs-fit h ≡ false → Malformed h
-  unfolding arcs-fit
-  arcs-found e =
-      ⊎-elim (λ b. arcs-beyond (leb-false (h .arcs) (length (h .from)) b)) (λ m. many-arcs (leb-false (h .arcs) 16777216 m))
-      (and-false (leb (h .arcs) (length (h .from))) (leb (h .arcs) 16777216) e)
+  abbrev letter : ℕ → ℕ
+  letter i = getD (h .arcs .columns .letter) i 0
 
-  accepting-found : accepting-fits h ≡ false → Malformed h
-  unfolding accepting-fits
-  accepting-found e = let (t, l, f) = all-false (h .states) _ e in accepting-value t l (leb-false (getD (h .accepting) t 0) 1 f)
+  pub never-malformed : WellFormedAutomaton h → ¬ Malformed h
+  never-malformed w (no-state z) = let l = w .some-state in omega arith
+  never-malformed w (many-states m) = let l = w .few-states in omega arith
+  never-malformed w (states-beyond b) = let l = w .accepting-long in omega arith
+  never-malformed w (arcs-beyond b) = let l = w .arcs-long in omega arith
+  never-malformed w (many-arcs m) = let l = w .few-arcs in omega arith
+  never-malformed w (accepting-value t l v) = let m = w .accepting-value t l in omega arith
+  never-malformed w (from-beyond i l b) = let m = w .from-below i l in omega arith
+  never-malformed w (to-beyond i l b) = let m = w .to-below i l in omega arith
+  never-malformed w (letter-zero i l z) = let m = w .letter-some i l in omega arith
 
-  ends-found : ends-fit h ≡ false → Malformed h
-  unfolding ends-fit
-  ends-found e =
-      let (i, l, f) = all-false (h .arcs) _ e in
-      ⊎-elim
-      (λ g. ⊎-elim (λ a. from-beyond i l (ltb-false (getD (h .from) i 0) (h .states) a)) (λ b. to-beyond i l (ltb-false (getD (h .to) i 0) (h .states) b))
-      (and-false (ltb (getD (h .from) i 0) (h .states)) (ltb (getD (h .to) i 0) (h .states)) g))
-      (λ z. letter-zero i l (eqb-true (getD (h .letter) i 0) 0 (not-false _ z)))
-      (and-false (ltb (getD (h .from) i 0) (h .states) && ltb (getD (h .to) i 0) (h .states)) (not (eqb (getD (h .letter) i 0) 0)) f)
+  -- A question that is answered no gives cause.
+  asked : {A : Type 0} → Dec A → (¬ A → Malformed h) → (A → WellFormedAutomaton h ⊎ Malformed h) → WellFormedAutomaton h ⊎ Malformed h
+  asked (yes a) f g = g a
+  asked (no n) f g = inr (f n)
 
-  pub malformed-found : well-formed h ≡ false → Malformed h
-  unfolding well-formed
-  malformed-found e =
-      ⊎-elim
-      (λ f. ⊎-elim (λ g. ⊎-elim states-found arcs-found (and-false (states-fit h) (arcs-fit h) g)) accepting-found
-      (and-false (states-fit h && arcs-fit h) (accepting-fits h) f))
-      ends-found (and-false (states-fit h && arcs-fit h && accepting-fits h) (ends-fit h) e)
+  asked-each : (n : ℕ) (P : ℕ → Type 0) → ((k : ℕ) → Dec (P k)) → ((k : ℕ) → k < n → ¬ P k → Malformed h)
+      → (((k : ℕ) → k < n → P k) → WellFormedAutomaton h ⊎ Malformed h) → WellFormedAutomaton h ⊎ Malformed h
+  asked-each n P d f g = ⊎-elim g (λ (k, l, q). inr (f k l q)) (each-below n P d)
 
-  -- What no test that passes lets through.
-  module _ (good : well-formed h ≡ true) where
-    states-pass : states-fit h ≡ true
-    unfolding well-formed
-    states-pass = and-left _ _ (and-left _ _ (and-left (states-fit h && arcs-fit h && accepting-fits h) (ends-fit h) good))
+  pub formed-or-not : WellFormedAutomaton h ⊎ Malformed h
+  formed-or-not =
+      asked (decLt 0 (h .states)) (λ n. no-state (omega arith)) λ some-state.
+      asked (decLe (h .states) most-states) (λ n. many-states (lt-of-not-le n)) λ few-states.
+      asked (decLe (h .states) (length (h .accepting))) (λ n. states-beyond (lt-of-not-le n)) λ accepting-long.
+      asked (decLe (h .arcs .count) (length (h .arcs .columns .from))) (λ n. arcs-beyond (lt-of-not-le n)) λ arcs-long.
+      asked (decLe (h .arcs .count) most-arcs) (λ n. many-arcs (lt-of-not-le n)) λ few-arcs.
+      asked-each (h .states) (λ t. getD (h .accepting) t 0 ≤ 1) (λ t. decLe _ 1) (λ t l n. accepting-value t l (lt-of-not-le n)) λ values.
+      asked-each (h .arcs .count) (λ i. from i < h .states) (λ i. decLt _ _) (λ i l n. from-beyond i l (by-contra _ _ n)) λ from-below.
+      asked-each (h .arcs .count) (λ i. to i < h .states) (λ i. decLt _ _) (λ i l n. to-beyond i l (by-contra _ _ n)) λ to-below.
+      asked-each (h .arcs .count) (λ i. 0 < letter i) (λ i. decLt 0 _) (λ i l n. letter-zero i l (omega arith)) λ letter-some.
+      inl (record {
+        some-state = some-state;
+        few-states = few-states;
+        accepting-long = accepting-long;
+        arcs-long = arcs-long;
+        few-arcs = few-arcs;
+        accepting-value = values;
+        from-below = from-below;
+        to-below = to-below;
+        letter-some = letter-some;
+      })
 
-    arcs-pass : arcs-fit h ≡ true
-    unfolding well-formed
-    arcs-pass = and-right (states-fit h) _ (and-left _ _ (and-left (states-fit h && arcs-fit h && accepting-fits h) (ends-fit h) good))
+  malformed-found : well-formed h ≡ false → Malformed h
+  malformed-found e = ⊎-elim (λ w. absurd (false≢true (sym e ∙ (well-formed-iff h) .1 w))) (λ m. m) formed-or-not
 
-    accepting-pass : (t : ℕ) → t < h .states → getD (h .accepting) t 0 ≤ 1
-    unfolding well-formed accepting-fits
-    accepting-pass t l =
-        leb-true _ _ (all-at (h .states) _ t (and-right (states-fit h && arcs-fit h) _ (and-left (states-fit h && arcs-fit h && accepting-fits h) (ends-fit h) good)) l)
-
-    end-pass : (i : ℕ) → i < h .arcs
-        → (ltb (getD (h .from) i 0) (h .states) && ltb (getD (h .to) i 0) (h .states) && not (eqb (getD (h .letter) i 0) 0)) ≡ true
-    unfolding well-formed ends-fit
-    end-pass i l = all-at (h .arcs) _ i (and-right (states-fit h && arcs-fit h && accepting-fits h) (ends-fit h) good) l
-
-    pub never-malformed : Malformed h → ⊥
-    unfolding states-fit arcs-fit
-    never-malformed (no-state z) = eqb-false (h .states) 0 (not-true _ (and-left (not (eqb (h .states) 0)) _ (and-left _ _ states-pass))) z
-    never-malformed (many-states m) = let l = leb-true (h .states) 65535 (and-right (not (eqb (h .states) 0)) _ (and-left _ _ states-pass)) in omega arith
-    never-malformed (states-beyond b) =
-        let l = leb-true (h .states) (length (h .accepting)) (and-right (not (eqb (h .states) 0) && leb (h .states) 65535) _ states-pass) in omega arith
-    never-malformed (arcs-beyond b) = let l = leb-true (h .arcs) (length (h .from)) (and-left _ _ arcs-pass) in omega arith
-    never-malformed (many-arcs m) = let l = leb-true (h .arcs) 16777216 (and-right (leb (h .arcs) (length (h .from))) _ arcs-pass) in omega arith
-    never-malformed (accepting-value t l v) = let k = accepting-pass t l in omega arith
-    never-malformed (from-beyond i l b) = let k = ltb-true (getD (h .from) i 0) (h .states) (and-left _ _ (and-left _ _ (end-pass i l))) in omega arith
-    never-malformed (to-beyond i l b) =
-        let k = ltb-true (getD (h .to) i 0) (h .states) (and-right (ltb (getD (h .from) i 0) (h .states)) _ (and-left _ _ (end-pass i l))) in omega arith
-    never-malformed (letter-zero i l z) =
-        eqb-false (getD (h .letter) i 0) 0 (not-true _ (and-right (ltb (getD (h .from) i 0) (h .states) && ltb (getD (h .to) i 0) (h .states)) _ (end-pass i l))) z
+  formed : ¬ Malformed h → well-formed h ≡ true
+  formed n = ⊎-elim (λ w. (well-formed-iff h) .1 w) (λ m. absurd (n m)) formed-or-not
 
 -- ---- All refusals
 
-module _ (h : Handed) (now next : ℕ) where
-  even-test : Bool
-  even-test = eqb (length (h .letter)) (length (h .from)) && eqb (length (h .to)) (length (h .from))
-
-  short-test : Bool
-  short-test = ltb now (words (h .states)) || ltb next (words (h .states))
-
-  ordered : Bool → Bool → Bool → Refusal
-  ordered even good few =
-      cond (not even) (refusal columns-differ 0) (cond (not good) (refusal automaton-malformed 0) (cond few (refusal work-short 0) success))
-
-  even-passed : even-test ≡ true → EvenArcs h
-  unfolding even-test
-  even-passed e = (eqb-true _ _ (and-left _ _ e), eqb-true _ _ (and-right (eqb (length (h .letter)) (length (h .from))) _ e))
-
-  even-passes : EvenArcs h → even-test ≡ true
-  unfolding even-test
-  even-passes (p, q) = rw (eq-eqb _ _ p, eq-eqb _ _ q)
-
-  shortage : short-test ≡ true → (now < words (h .states)) ⊎ (next < words (h .states))
-  unfolding short-test
-  shortage e = ⊎-elim (λ f. inl (ltb-true _ _ f)) (λ f. inr (ltb-true _ _ f)) (or-true _ _ e)
-
-  pub matcher-caused : MatcherCause h now next (matcher-refusal h now next)
-  unfolding matcher-refusal even-test short-test ordered
-  matcher-caused = go even-test (well-formed h) short-test refl refl refl
+module _ (h : Handed) (k : Work) where
+  pub matcher-caused : MatcherCause h k (matcher-refusal h k)
+  matcher-caused =
+      subst (MatcherCause h k) (sym (refusal-by h k refl refl refl))
+      (go (even-arcs (h .arcs .columns)) (well-formed h) (short k (h .states)) refl refl refl)
     where
-      go : (even good few : Bool) → even-test ≡ even → well-formed h ≡ good → short-test ≡ few → MatcherCause h now next (ordered even good few)
-      go false good few e w s = differ (λ v. false≢true (sym e ∙ even-passes v))
-      go true false few e w s = malformed (even-passed e) (malformed-found h w)
-      go true true true e w s = short (even-passed e) (never-malformed h w) (shortage s)
-      go true true false e w s = none (even-passed e) (never-malformed h w) (ltb-false _ _ (or-left _ _ s)) (ltb-false _ _ (or-right (ltb now (words (h .states))) _ s))
+      go : (even good few : Bool) → even-arcs (h .arcs .columns) ≡ even → well-formed h ≡ good → short k (h .states) ≡ few
+          → MatcherCause h k (ordered even good few)
+      go false good few e w s = differ (λ v. false≢true (sym e ∙ (even-arcs-iff _) .1 v))
+      go true false few e w s = malformed ((even-arcs-iff _) .0 e) (malformed-found h w)
+      go true true true e w s =
+          Causes.short ((even-arcs-iff _) .0 e) (never-malformed h ((well-formed-iff h) .0 w)) (λ l. false≢true (sym ((short-iff k (h .states)) .1 l) ∙ s))
+      go true true false e w s = none ((even-arcs-iff _) .0 e) (never-malformed h ((well-formed-iff h) .0 w)) ((short-iff k (h .states)) .0 s)
 
-  due : {even good few : Bool} → even-test ≡ even → well-formed h ≡ good → short-test ≡ few → matcher-refusal h now next ≡ ordered even good few
-  unfolding matcher-refusal even-test short-test ordered
-  due e w s = λ i. ordered (e i) (w i) (s i)
+  pub matcher-due : {r : Refusal} → MatcherCause h k r → matcher-refusal h k ≡ r
+  matcher-due (differ n) = refusal-by h k (false-of _ (λ e. n ((even-arcs-iff _) .0 e))) refl refl
+  matcher-due (malformed v m) = refusal-by h k ((even-arcs-iff _) .1 v) (false-of _ (λ w. never-malformed h ((well-formed-iff h) .0 w) m)) refl
+  matcher-due (Causes.short v n l) =
+      refusal-by h k ((even-arcs-iff _) .1 v) (formed h n) (true-of _ (λ s. l ((short-iff k (h .states)) .0 s)))
+  matcher-due (none v n l) = refusal-by h k ((even-arcs-iff _) .1 v) (formed h n) ((short-iff k (h .states)) .1 l)
 
-  sound : ¬ Malformed h → well-formed h ≡ true
-  sound n = true-of (well-formed h) (λ f. n (malformed-found h f))
-
-  pub matcher-due : {r : Refusal} → MatcherCause h now next r → matcher-refusal h now next ≡ r
-  unfolding short-test ordered
-  matcher-due (differ n) = due (false-of even-test (λ e. n (even-passed e))) refl refl
-  matcher-due (malformed v m) = due (even-passes v) (false-of (well-formed h) (λ w. never-malformed h w m)) refl
-  matcher-due (short v n l) = due (even-passes v) (sound n) (or-of _ _ (⊎-elim (λ a. inl (lt-ltb _ _ a)) (λ b. inr (lt-ltb _ _ b)) l))
-  matcher-due (none v n l m) =
-      due {few = false} (even-passes v) (sound n) (rw (le-ltb now (words (h .states)) l, le-ltb next (words (h .states)) m))
-
-  pub matcher-numbered : {r : Refusal} → MatcherCause h now next r → r .number ≤ 11
+  pub matcher-numbered : {r : Refusal} → MatcherCause h k r → r .number ≤ work-short
   matcher-numbered (differ n) = omega arith
   matcher-numbered (malformed v m) = omega arith
-  matcher-numbered (short v n l) = omega arith
-  matcher-numbered (none v n l m) = omega arith
+  matcher-numbered (Causes.short v n l) = omega arith
+  matcher-numbered (none v n l) = omega arith
 
-  pub matcher-clear : {r : Refusal} → MatcherCause h now next r → r .number ≡ 0 → r ≡ success
+  pub matcher-clear : {r : Refusal} → MatcherCause h k r → r .number ≡ 0 → r ≡ success
   matcher-clear (differ n) z = absurd (omega arith)
   matcher-clear (malformed v m) z = absurd (omega arith)
-  matcher-clear (short v n l) z = absurd (omega arith)
-  matcher-clear (none v n l m) z = refl
+  matcher-clear (Causes.short v n l) z = absurd (omega arith)
+  matcher-clear (none v n l) z = refl
 
--- The answer's refusal is the one that is due.
-pub matcher-answers : {h : Handed} {w : Word} {now next : List ℕ} {answer : Judgement} {now′ next′ : List ℕ}
-    → Judged h w now next answer now′ next′ → answer .refusal ≡ matcher-refusal h (length now) (length next)
-matcher-answers {h} {w} {now} {next} j =
-    ap (λ (a : Judgement). a .refusal) (j .answers) ∙ go (ℕ-discrete ((matcher-refusal h (length now) (length next)) .number) 0)
-  where
-    fine : (v : Verdict) (n : ℕ) → (given v n) .refusal ≡ success
-    fine accepted n = refl
-    fine unfinished n = refl
-    fine (wrong p) n = refl
+given-success : (v : Verdict) (n : ℕ) → (given v n) .refusal ≡ success
+given-success accepted n = refl
+given-success unfinished n = refl
+given-success (wrong p) n = refl
 
-    go : Dec ((matcher-refusal h (length now) (length next)) .number ≡ 0)
-        → (judgement h (length now) (length next) w) .refusal ≡ matcher-refusal h (length now) (length next)
-    go (yes z) =
-        ap (λ (a : Judgement). a .refusal) (judgement-given h (length now) (length next) w z) ∙ fine (verdict h w) (live h w)
-        ∙ sym (matcher-clear h (length now) (length next) (matcher-caused h (length now) (length next)) z)
-    go (no n) = ap (λ (a : Judgement). a .refusal) (judgement-refused h (length now) (length next) w n)
+module _ {h : Handed} {w : Word} {k k′ : Work} {answer : Judgement} (j : Judged h w k answer k′) where
+  -- The answer's refusal is the one that is due.
+  pub matcher-answers : answer .refusal ≡ matcher-refusal h k
+  matcher-answers = ap (λ (a : Judgement). a .refusal) (j .answers) ∙ go (ℕ-discrete ((matcher-refusal h k) .number) 0)
+    where
+      go : Dec ((matcher-refusal h k) .number ≡ 0) → (judgement h k w) .refusal ≡ matcher-refusal h k
+      go (yes z) =
+          ap (λ (a : Judgement). a .refusal) (judgement-given h k w z) ∙ given-success (verdict h w) (live h w)
+          ∙ sym (matcher-clear h k (matcher-caused h k) z)
+      go (no n) = ap (λ (a : Judgement). a .refusal) (judgement-refused h k w n)
 
--- ---- The demand
-
-pub matcher-meets : {h : Handed} {w : Word} {now next : List ℕ} {answer : Judgement} {now′ next′ : List ℕ}
-    → Judged h w now next answer now′ next′ → MatcherMeets h now next answer now′ next′
-matcher-meets {h} {w} {now} {next} {answer} j = record {
-  exact = exactly (MatcherCause h (length now) (length next)) (matcher-answers j) caused (λ r. matcher-due h (length now) (length next));
-  numbered = rw (matcher-answers j) (le-trans (matcher-numbered h (length now) (length next) caused) (omega arith));
-  counts = λ n. let e = j .answers ∙ judgement-refused h (length now) (length next) w (λ z. n (ap (λ (r : Refusal). r .number) (matcher-answers j) ∙ z)) in
-      (ap (λ (a : Judgement). a .verdict) e, ap (λ (a : Judgement). a .place) e, ap (λ (a : Judgement). a .live) e);
-  columns = (j .now-zero, j .next-zero);
-}
-  where
-    caused : MatcherCause h (length now) (length next) (matcher-refusal h (length now) (length next))
-    caused = matcher-caused h (length now) (length next)
+  pub matcher-meets : MatcherMeets h k answer k′
+  matcher-meets = record {
+    exact = exactly (MatcherCause h k) matcher-answers (matcher-caused h k) (λ r. matcher-due h k);
+    numbered = rw matcher-answers (let l = matcher-numbered h k (matcher-caused h k) in omega arith);
+    counts = λ n. let e = j .answers ∙ judgement-refused h k w (λ z. n (ap (λ (r : Refusal). r .number) matcher-answers ∙ z)) in
+        (ap (λ (a : Judgement). a .verdict) e, ap (λ (a : Judgement). a .place) e, ap (λ (a : Judgement). a .live) e);
+    columns = j .cleared;
+  }

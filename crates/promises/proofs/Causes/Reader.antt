@@ -1,9 +1,9 @@
 -- The reader's refusals have their causes. Leans on `Grammar`: what a text that is read makes, and on `Due`: one reading is due.
-use Prim.Native.Nat.{_≤_}
+use Prim.Native.Nat.{_<_}
 use native.Mathlib.Omega.{arith}
 use mathlib.Core.Path.{_≡_, refl, sym, ap, _∙_}
 use mathlib.Core.List.{[], append-nil}
-use Rattle.theory.specs.Refusal.{Refusal}
+use Rattle.theory.specs.Refusal.{Refusal, record-long}
 use Rattle.theory.specs.Table.{Table}
 use Rattle.theory.specs.Grammar.{Text, Reading, read, refused, Passed, Reads, whole, broken, stopped, deep, many}
 use Rattle.theory.specs.Read.{Read, Entered, Due, differ, long, short, entered}
@@ -42,12 +42,16 @@ module _ {text : Text} {t : Table} where
   dues (Causes.none e w) = (_, begun (w .legible) (whole e (w .writable) (w .spelled) passed), refl)
     where
       passed : Passed (entry-room t) text
-      passed = record { viable = ([], (e, w .writable, w .spelled ∙ sym (append-nil text))); shallow = w .shallow; fits = rw (← w .spelled, made-written e (w .writable)) (w .fits) }
+      passed = record {
+        viable = ([], (e, w .writable, w .spelled ∙ sym (append-nil text)));
+        shallow = w .shallow;
+        fits = rw (← w .spelled, made-written e (w .writable)) (w .fits);
+      }
 
   pub reader-due : {q : Reading} {r : Refusal} → Due text t q → ReaderCause text t r → (entered q) .refusal ≡ r
   reader-due d c = let (q, d′, e) = dues c in ap (λ q. (entered q) .refusal) (due-once d d′) ∙ e
 
-  pub reader-numbered : {r : Refusal} → ReaderCause text t r → r .number ≤ 15
+  pub reader-numbered : {r : Refusal} → ReaderCause text t r → r .number < record-long
   reader-numbered (Causes.differ n) = omega arith
   reader-numbered (Causes.long v l) = omega arith
   reader-numbered (Causes.broken p b n) = omega arith

@@ -2,12 +2,14 @@
 use Prim.Native.Nat.{ℕ, pred, _≤_, _<_}
 use native.Mathlib.Decide.{ℕ-discrete, decLt}
 use native.Mathlib.Omega.{arith}
-use mathlib.Core.Path.{_≡_, refl, sym, ap, _∙_, subst}
+use mathlib.Core.Path.{_≡_, refl, sym, ap, ap₂, _∙_, subst}
 use mathlib.Core.Bool.{Bool, true, false, cond, not, _&&_, false≢true}
 use mathlib.Core.List.{List, [], _∷_, List·Memᴰ, List·Memᴰ·head, List·Memᴰ·tail, List·Memᴰ·not-nil}
 use lib.ListN.{length}
 use lib.Dec.{eqb, ltb}
 use borrow.Author.Tests.{eqb-true, eqb-false, eq-eqb, ne-eqb, ltb-true, ltb-false, lt-ltb, le-ltb}
+use Rattle.theory.specs.Kind as Kind
+use Rattle.theory.specs.Limit.{most-entries}
 use Rattle.theory.specs.Refusal.{Refusal, refusal, success, or-else, kind-unknown, field-outside, child-not-smaller, empty-language-inside}
 use Rattle.theory.specs.Table.{Table, Row, row, size, meaning, children, fields-fit, row-children, all-below, entry-fault, naming-fault, first-fault, table-refusal, SameLengths, Faultless, WellFormed}
 use Rattle.theory.proofs.Tests.{false-of, true-of}
@@ -42,27 +44,27 @@ module _ (n i : ℕ) (w : Row) where
   examined : Examined n i w (entry-fault n i w)
   unfolding entry-fault ordered
   examined =
-      go (ltb 6 (w .kind)) (fields-fit (meaning (w .kind)) (w .left) (w .right)) (all-below i (row-children w)) (eqb (w .kind) 0) (ltb 1 n) refl refl refl refl
+      go (ltb Kind.last (w .kind)) (fields-fit (meaning (w .kind)) (w .left) (w .right)) (all-below i (row-children w)) (eqb (w .kind) 0) (ltb 1 n) refl refl refl refl
       refl
     where
-      go : (a b c d e : Bool) → ltb 6 (w .kind) ≡ a → fields-fit (meaning (w .kind)) (w .left) (w .right) ≡ b → all-below i (row-children w) ≡ c
+      go : (a b c d e : Bool) → ltb Kind.last (w .kind) ≡ a → fields-fit (meaning (w .kind)) (w .left) (w .right) ≡ b → all-below i (row-children w) ≡ c
           → eqb (w .kind) 0 ≡ d → ltb 1 n ≡ e → Examined n i w (ordered a b c d e)
-      go true b c d e p q r s u = wrong (unknown (ltb-true 6 (w .kind) p)) (λ z. omega arith)
-      go false false c d e p q r s u = wrong (outside (ltb-false 6 (w .kind) p) (λ f. false≢true (sym q ∙ f))) (λ z. omega arith)
+      go true b c d e p q r s u = wrong (unknown (ltb-true Kind.last (w .kind) p)) (λ z. omega arith)
+      go false false c d e p q r s u = wrong (outside (ltb-false Kind.last (w .kind) p) (λ f. false≢true (sym q ∙ f))) (λ z. omega arith)
       go false true false d e p q r s u =
-          let (c, m, l) = larger-found i (row-children w) r in wrong (not-smaller (ltb-false 6 (w .kind) p) q c m l) (λ z. omega arith)
+          let (c, m, l) = larger-found i (row-children w) r in wrong (not-smaller (ltb-false Kind.last (w .kind) p) q c m l) (λ z. omega arith)
       go false true true true true p q r s u = wrong (inside (eqb-true (w .kind) 0 s) q (ltb-true 1 n u)) (λ z. omega arith)
       go false true true true false p q r s u =
-          right (record { known = ltb-false 6 (w .kind) p; fits = q; smaller = smaller-of i (row-children w) r; alone = λ _. ltb-false 1 n u })
+          right (record { known = ltb-false Kind.last (w .kind) p; fits = q; smaller = smaller-of i (row-children w) r; alone = λ _. ltb-false 1 n u })
       go false true true false e p q r s u =
           right (record {
-            known = ltb-false 6 (w .kind) p;
+            known = ltb-false Kind.last (w .kind) p;
             fits = q;
             smaller = smaller-of i (row-children w) r;
             alone = λ k. absurd (eqb-false (w .kind) 0 s k);
           })
 
-  due : {a b c d e : Bool} → ltb 6 (w .kind) ≡ a → fields-fit (meaning (w .kind)) (w .left) (w .right) ≡ b → all-below i (row-children w) ≡ c
+  due : {a b c d e : Bool} → ltb Kind.last (w .kind) ≡ a → fields-fit (meaning (w .kind)) (w .left) (w .right) ≡ b → all-below i (row-children w) ≡ c
       → eqb (w .kind) 0 ≡ d → ltb 1 n ≡ e → entry-fault n i w ≡ ordered a b c d e
   unfolding entry-fault ordered
   due p q r s u = λ j. ordered (p j) (q j) (r j) (s j) (u j)
@@ -73,20 +75,20 @@ module _ (n i : ℕ) (w : Row) where
 
   fault-due : {k : ℕ} → EntryCause n i w k → entry-fault n i w ≡ k
   unfolding ordered meaning row-children children
-  fault-due (unknown l) = due (lt-ltb 6 (w .kind) l) refl refl refl refl
-  fault-due (outside l f) = due (le-ltb 6 (w .kind) l) (false-of _ f) refl refl refl
+  fault-due (unknown l) = due (lt-ltb Kind.last (w .kind) l) refl refl refl refl
+  fault-due (outside l f) = due (le-ltb Kind.last (w .kind) l) (false-of _ f) refl refl refl
   fault-due (not-smaller l f c m b) =
-      due (le-ltb 6 (w .kind) l) f (false-of _ (λ e. let k = smaller-of i (row-children w) e c m in omega arith)) refl refl
+      due (le-ltb Kind.last (w .kind) l) f (false-of _ (λ e. let k = smaller-of i (row-children w) e c m in omega arith)) refl refl
   fault-due (inside z f l) =
-      due (le-ltb 6 (w .kind) (omega arith)) f (smaller-passes (λ c m. absurd (List·Memᴰ·not-nil (rw z at m)))) (eq-eqb (w .kind) 0 z) (lt-ltb 1 n l)
+      due (le-ltb Kind.last (w .kind) (omega arith)) f (smaller-passes (λ c m. absurd (List·Memᴰ·not-nil (rw z at m)))) (eq-eqb (w .kind) 0 z) (lt-ltb 1 n l)
 
   none-due : Faultless n i w → entry-fault n i w ≡ 0
   unfolding ordered
   none-due h = go (ℕ-discrete (w .kind) 0)
     where
       go : Dec (w .kind ≡ 0) → entry-fault n i w ≡ 0
-      go (yes z) = due (le-ltb 6 (w .kind) (h .known)) (h .fits) (smaller-passes (h .smaller)) (eq-eqb (w .kind) 0 z) (le-ltb 1 n (h .alone z))
-      go (no f) = due (le-ltb 6 (w .kind) (h .known)) (h .fits) (smaller-passes (h .smaller)) (ne-eqb (w .kind) 0 f) refl
+      go (yes z) = due (le-ltb Kind.last (w .kind) (h .known)) (h .fits) (smaller-passes (h .smaller)) (eq-eqb (w .kind) 0 z) (le-ltb 1 n (h .alone z))
+      go (no f) = due (le-ltb Kind.last (w .kind) (h .known)) (h .fits) (smaller-passes (h .smaller)) (ne-eqb (w .kind) 0 f) refl
 
   a-fault : {k : ℕ} → EntryCause n i w k → k ≡ 0 → ⊥
   a-fault (unknown l) z = omega arith
@@ -136,7 +138,7 @@ module _ (g : Table) where
       caused : {r : Refusal} → table-refusal g ≡ r → TableCause g r → TableCause g (table-refusal g)
       caused e c = subst (TableCause g) (sym e) c
 
-      third : SameLengths g → (size g ≡ 0 → ⊥) → Dec (512 < size g) → TableCause g (table-refusal g)
+      third : SameLengths g → (size g ≡ 0 → ⊥) → Dec (most-entries < size g) → TableCause g (table-refusal g)
       third v n (yes l) = caused (refused-long g v n l) (long v l)
       third v n (no m) =
           caused (refused-later g v n (omega arith))
@@ -144,7 +146,7 @@ module _ (g : Table) where
 
       second : SameLengths g → Dec (size g ≡ 0) → TableCause g (table-refusal g)
       second v (yes z) = caused (refused-empty g v z) (empty v z)
-      second v (no n) = third v n (decLt 512 (size g))
+      second v (no n) = third v n (decLt most-entries (size g))
 
       first : Dec (length (g .left) ≡ size g) → Dec (length (g .right) ≡ size g) → TableCause g (table-refusal g)
       first (yes p) (yes q) = second (p, q) (ℕ-discrete (size g) 0)
@@ -154,8 +156,9 @@ module _ (g : Table) where
   later-due : {r s : Refusal} → Sized g → Scanned fault (size g) r → Scanned (naming-fault g) (pred (size g)) s → table-refusal g ≡ or-else r s
   unfolding fault
   later-due {r} {s} v a b =
+      let m = pred (size g) in
       refused-later g (v .even) (λ z. let n = v .nonempty in omega arith) (v .short)
-      ∙ (λ i. or-else (scanned-once fault (size g) (scanned fault (size g)) a i) (scanned-once (naming-fault g) (pred (size g)) (scanned (naming-fault g) (pred (size g))) b i))
+      ∙ ap₂ or-else (scanned-once fault (size g) (scanned fault (size g)) a) (scanned-once (naming-fault g) m (scanned (naming-fault g) m) b)
 
   none-before : (p : ℕ) → FaultlessBefore g p → (i : ℕ) → i < p → fault i ≡ 0
   unfolding fault
