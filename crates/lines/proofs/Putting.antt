@@ -14,12 +14,12 @@ use Rattle.theory.specs.Lines.{decimal, number-and, space, newline, refusal-lin
 use Rattle.lines.specs.Output.{Put, line-room}
 use Rattle.lines.proofs.Decimal.{decimal-digits, decimal-short}
 
+pub put-nothing : {block : List ℕ} {used : ℕ} → Put [] block used block used
+put-nothing {block} {used} = record { count = sym (add-zero used); stands = sym (append-nil (take used block)); same-length = refl }
+
+-- The same, as a loop begins.
 pub put-none : (block : List ℕ) (used : ℕ) → Put [] block used block (used + 0)
-put-none block used = record {
-  count = refl;
-  stands = ap (λ (n : ℕ). take n block) (add-zero used) ∙ sym (append-nil (take used block));
-  same-length = refl;
-}
+put-none block used = rw add-zero put-nothing
 
 one-more : (n : ℕ) → n + 1 ≡ suc n
 one-more n = omega arith
