@@ -1,28 +1,31 @@
--- All states left: what the columns then hold is the automaton, and the counts are its needs. Assumes nothing.
+-- All states left: what the columns then hold is the automaton, and the counts are its needs.
 use Prim.Native.Nat.{ℕ, zero, suc, _<_}
 use native.Mathlib.Nat.{le-refl, le-step}
 use native.Mathlib.Omega.{arith}
 use mathlib.Core.Path.{_≡_, sym, ap, ap₂, _∙_, subst}
 use mathlib.Core.Bool.{cond}
 use mathlib.Core.Logic.{⊎-elim}
-use mathlib.Core.List.{List, [], _∷_, _++_, map, map-map, flatMap, List·Memᴰ, List·Memᴰ·cases-cons, List·Memᴰ·append-cases, List·Memᴰ·eq-of-singleton, List·Memᴰ·not-nil, Memᴰ·append-left, Memᴰ·append-right}
+use mathlib.Core.List.{List, [], _∷_, _++_, map, List·Memᴰ, List·Memᴰ·append-cases, List·Memᴰ·eq-of-singleton, List·Memᴰ·not-nil, Memᴰ·append-left, Memᴰ·append-right}
 use lib.ListN.{length, getD, length-map}
-use Rattle.theory.specs.Expression.{Expression, same, ∅, ε, letter, binary, star, parts}
-use Rattle.theory.specs.Distinct.{NoRepeats, Within, place}
-use Rattle.theory.specs.Automaton.{Arc, states, arcs, expressions, accepting}
+use Rattle.theory.specs.Expression.{Expression, same, ∅, binary, star, parts}
+use Rattle.theory.specs.Distinct.{Within, place}
+use Rattle.theory.specs.Automaton.{states, arcs, expressions, accepting}
 use Rattle.theory.specs.Derivative.{empty-word}
 use Rattle.theory.specs.Column.{filled}
 use Rattle.theory.specs.Table.{Table, Row, row, row-tree, Sound, of-∅, of-ε, of-letter, of-sign, of-star, meaning, node, trees, tree-at}
 use Rattle.theory.specs.Build.{Lent, Names, Holds, Stands}
-use Rattle.theory.proofs.Distinct.{getD-member, no-longer, distinct-of, distinct-no-repeats, place-below, at-place}
-use Rattle.theory.proofs.Members.{flatMap-of}
+use Rattle.theory.proofs.Distinct.{getD-member, no-longer, place-below, at-place}
 use Rattle.theory.proofs.Trees.{trees-length, to-trees}
 use Rattle.theory.proofs.Sound.{sign-tree}
-use Rattle.theory.proofs.Meetings.{Meeting, meetings, states-met, arcs-met, to-arc}
+use Rattle.theory.specs.Needs.{Tree, empty, part}
+use Rattle.theory.specs.Meetings.{meetings, to-arc}
+use Rattle.theory.specs.Arcs.{filled-arcs}
+use Rattle.theory.proofs.Needs.{counted}
+use Rattle.theory.proofs.Meetings.{states-met, arcs-met}
 use Rattle.derive.specs.Rows.{Rows}
 use Rattle.builder.specs.Progress.{Progress}
 use Rattle.builder.specs.declared.arcs.Counts.{Counts}
-use Rattle.builder.proofs.Lengths.{SameLengths}
+use Rattle.builder.proofs.Lengths.{SameLengths, filled-same}
 
 -- ---- Every part of a row's tree is a row's tree
 
@@ -63,20 +66,15 @@ parts-held t (suc n) sound x z m p =
 -- ---- The rows are the expressions
 
 expressions-held : (e : Expression) (t : Table) (n : ℕ) (column : List ℕ) → Rows t n → Names t n column (states e) → Within (expressions e) (trees t n)
-unfolding expressions
-expressions-held e t n column r names z m =
-    ⊎-elim (λ q. subst (λ y. List·Memᴰ y (trees t n)) (r .literal ∙ sym q) (to-trees t n 0 (r .some)))
-    (λ k.
-    let (x, s, p) = flatMap-of parts (states e) k in
-    let i = place same x (states e) in
-    let l = place-below same x (states e) s in
-    let is : tree-at t (getD column i 0) ≡ x = names .named i l ∙ at-place same x (states e) ∅ s in
-    parts-held t n (r .sound) x z (subst (λ y. List·Memᴰ y (trees t n)) is (to-trees t n (getD column i 0) (names .within i l))) p)
-    (List·Memᴰ·cases-cons (distinct-of same (ε ∷ flatMap parts (states e)) z m))
-
-expressions-once : (e : Expression) → NoRepeats (expressions e)
-unfolding expressions
-expressions-once e = distinct-no-repeats same (ε ∷ flatMap parts (states e))
+expressions-held e t n column r names z m = held ((counted e .expressions z) .0 m)
+  where
+    held : Tree e z → List·Memᴰ z (trees t n)
+    held (empty q) = subst (λ y. List·Memᴰ y (trees t n)) (r .literal ∙ sym q) (to-trees t n 0 (r .some))
+    held (part {s = x} s p) =
+        let i = place same x (states e) in
+        let l = place-below same x (states e) s in
+        let is : tree-at t (getD column i 0) ≡ x = names .named i l ∙ at-place same x (states e) ∅ s in
+        parts-held t n (r .sound) x z (subst (λ y. List·Memᴰ y (trees t n)) is (to-trees t n (getD column i 0) (names .within i l))) p
 
 -- ---- The whole
 
@@ -94,15 +92,12 @@ module _ {e : Expression} {c : Lent} {k : Counts} (p : Progress e (meetings e) c
   all-rows =
       let ts = trees (c .rows) (k .rows) in
       let less = no-longer same ts (expressions e) (p .rows .once) (p .needed) in
-      let more = no-longer same (expressions e) ts (expressions-once e) held in
+      let more = no-longer same (expressions e) ts (counted e .expressions-once) held in
       let n = trees-length (c .rows) (k .rows) in
       omega (arith, less, more, n)
 
   pub all-arcs : k .arcs ≡ length (arcs e)
   all-arcs = p .arc-count ∙ sym (ap length (arcs-met e) ∙ length-map (meetings e) (to-arc (states e)))
-
-  arc-column : (f : Arc → ℕ) → map (λ (m : Meeting). f (to-arc (states e) m)) (meetings e) ≡ map f (arcs e)
-  arc-column f = sym (ap (map f) (arcs-met e) ∙ map-map f (to-arc (states e)) (meetings e))
 
   pub stands : {c₀ : Lent} → SameLengths c₀ c → Stands e c₀ c
   unfolding accepting
@@ -117,7 +112,5 @@ module _ {e : Expression} {c : Lent} {k : Counts} (p : Progress e (meetings e) c
             (record { sound = p .rows .sound; once = p .rows .once; all = held; only = p .needed; blank = p .rows .blank });
         expression = subst (λ (n : ℕ). Names (c .rows) n (c .expression) (states e)) all-rows names;
         accepting = p .accepting ∙ ap₂ filled (h .accepting) (ap (map (λ x. cond (empty-word x) 1 0)) (states-met e));
-        from = p .from ∙ ap₂ filled (h .from) (arc-column (λ (a : Arc). a .from));
-        letter = p .letter ∙ ap₂ filled (h .letter) (arc-column (λ (a : Arc). a .letter));
-        to = p .to ∙ ap₂ filled (h .to) (arc-column (λ (a : Arc). a .to));
+        arcs = p .arcs ∙ filled-same (h .arcs) (map (to-arc (states e)) (meetings e)) ∙ ap (filled-arcs (c₀ .arcs)) (sym (arcs-met e));
       }

@@ -1,4 +1,6 @@
 pub mod Lengths
+pub mod Told
+pub mod Marks
 pub mod Using
 pub mod Adding
 pub mod Meeting

@@ -1,74 +1,40 @@
--- What `build` owes, way by way: columns that differ, a table that is refused, a room that is exceeded, the automaton. Assumes nothing.
+-- What `build` owes, way by way: columns that differ, a table that is refused, a room that is exceeded, the automaton.
 use Prim.Native.Nat.{ℕ, _≤_, min}
 use native.Mathlib.Nat.{min-le-left, min-le-right}
 use native.Mathlib.Omega.{arith}
 use mathlib.Core.Path.{_≡_, refl, sym, ap, _∙_, subst}
 use mathlib.Core.Bool.{Bool, true, false, cond}
 use mathlib.Core.Logic.{inl, inr}
-use mathlib.Core.List.{List}
-use lib.ListN.{length, length-replicate}
 use borrow.Author.Tests.{ne-eqb}
 use Rattle.theory.specs.Refusal.{Refusal, refusal, success, columns-differ, room-small}
 use Rattle.theory.specs.Column.{zeros}
 use Rattle.theory.specs.Table.{Table, tree, table-refusal}
 use Rattle.theory.specs.Automaton.{states, arcs, expressions}
 use Rattle.theory.specs.Build as Build
-use Rattle.theory.specs.Build.{Lent, Cleared, even, over-room, build-refusal}
-use Rattle.theory.proofs.Meetings.{meetings}
+use Rattle.theory.specs.Build.{Lent, Cleared, even, over-room, build-refusal, expression-room, state-room, arc-room, OverRoom, of-expressions, of-states, of-arcs}
+use Rattle.theory.specs.Limit.{most-expressions, most-states, most-arcs}
+use Rattle.theory.specs.Meetings.{meetings}
 use Rattle.theory.proofs.Answers.{counts-built, counts-refused}
 use Rattle.theory.proofs.Tests.{false-of}
-use Rattle.theory.proofs.Room.{OverRoom, of-expressions, of-states, of-arcs, even-passed, over-found, over-passes, refusal-by}
+use Rattle.theory.proofs.BuilderRefusal.{even-iff, over-iff, refusal-by}
 use Rattle.table.specs.Checked.{Scanned, refusal-of}
 use Rattle.table.specs.declared.Checked.{Checked}
 use Rattle.table.specs.declared.Checked.the-variants as Checks
 use Rattle.builder.specs.Answer.{answer}
-use Rattle.builder.specs.Progress.{Progress, Roomy, Exceeds}
+use Rattle.builder.specs.Progress.{Progress, Roomy, Exceeds, Blank}
 use Rattle.builder.specs.declared.Building.the-variants.{Refused, Built}
 use Rattle.builder.specs.declared.arcs.Counts.{Counts}
-use Rattle.builder.proofs.Lengths.{SameLengths}
-use Rattle.builder.proofs.Starting.{Blank}
+use Rattle.builder.proofs.Lengths.{SameLengths, no-arcs-same, cleared-lengths}
 use Rattle.builder.proofs.Finishing.{all-states, all-rows, all-arcs, stands}
-
--- ---- Cleared columns
-
-pub cleared-lengths : {c c′ : Lent} → Cleared c c′ → SameLengths c c′
-cleared-lengths h =
-    record {
-      kind = long (h .kind);
-      left = long (h .left);
-      right = long (h .right);
-      expression = long (h .expression);
-      accepting = long (h .accepting);
-      from = long (h .from);
-      letter = long (h .letter);
-      to = long (h .to);
-    }
-  where
-    long : {column : List ℕ} {n : ℕ} → column ≡ zeros n → length column ≡ n
-    long {n = n} e = ap length e ∙ length-replicate n 0
-
--- Columns that were cleared after others as long.
-pub cleared-as : {c c₁ c′ : Lent} → SameLengths c c₁ → Cleared c₁ c′ → Cleared c c′
-cleared-as h k =
-    record {
-      kind = k .kind ∙ ap zeros (h .kind);
-      left = k .left ∙ ap zeros (h .left);
-      right = k .right ∙ ap zeros (h .right);
-      expression = k .expression ∙ ap zeros (h .expression);
-      accepting = k .accepting ∙ ap zeros (h .accepting);
-      from = k .from ∙ ap zeros (h .from);
-      letter = k .letter ∙ ap zeros (h .letter);
-      to = k .to ∙ ap zeros (h .to);
-    }
 
 -- 01's rooms of the columns.
 abbrev pub rooms-of : Lent → Counts
-rooms-of c = record { rows = min (length (c .rows .kind)) 65535; states = min (length (c .expression)) 65535; arcs = min (length (c .from)) 16777216 }
+rooms-of c = record { rows = expression-room c; states = state-room c; arcs = arc-room c }
 
 pub cleared-blank : {c c′ : Lent} {rooms : Counts} → even c ≡ true → Cleared c c′ → rooms ≡ rooms-of c′ → Blank rooms c′
 cleared-blank {c} {c′} e h q =
     let l = cleared-lengths h in
-    let v = even-passed c e in
+    let v = (even-iff c) .0 e in
     subst (λ r. Blank r c′) (sym q)
     (record {
       begins =
@@ -86,13 +52,13 @@ cleared-blank {c} {c′} e h q =
             accepting-in = as-long (sym (l .accepting ∙ v .states ∙ sym (l .expression))) (min-le-left _ _);
           };
       states-small = min-le-right _ _;
+      arcs-zero = h .arcs ∙ sym (no-arcs-same (l .arcs));
+      arcs-in = record {
+        from = min-le-left _ _;
+        letter = as-long (sym (l .arcs .letter ∙ v .arcs .letter ∙ sym (l .arcs .from))) (min-le-left _ _);
+        to = as-long (sym (l .arcs .to ∙ v .arcs .to ∙ sym (l .arcs .from))) (min-le-left _ _);
+      };
       arcs-small = min-le-right _ _;
-      from-zero = h .from ∙ ap zeros (sym (l .from));
-      letter-zero = h .letter ∙ ap zeros (sym (l .letter));
-      to-zero = h .to ∙ ap zeros (sym (l .to));
-      from-in = min-le-left _ _;
-      letter-in = as-long (sym (l .letter ∙ v .letter ∙ sym (l .from))) (min-le-left _ _);
-      to-in = as-long (sym (l .to ∙ v .to ∙ sym (l .from))) (min-le-left _ _);
     })
   where
     as-long : {k m n : ℕ} → m ≡ n → k ≤ m → k ≤ n
@@ -147,11 +113,11 @@ module _ (g : Table) {c c₁ : Lent} {rooms : Counts} (fine : (even c ≡ true) 
   rooms-before : rooms ≡ rooms-of c
   rooms-before =
       let l = cleared-lengths h in
-      q ∙ (λ i. record { rows = min (l .kind i) 65535; states = min (l .expression i) 65535; arcs = min (l .from i) 16777216 })
+      q ∙ (λ i. record { rows = min (l .kind i) most-expressions; states = min (l .expression i) most-states; arcs = min (l .arcs .from i) most-arcs })
 
-  pub built-short : {c′ : Lent} → Exceeds (tree g) rooms → Cleared c c′ → Build.Built g c (answer (Refused 9 0)) c′
+  pub built-short : {c′ : Lent} → Exceeds (tree g) rooms → Cleared c c′ → Build.Built g c (answer (Refused room-small 0)) c′
   built-short exceeds cleared =
-      refuses (refusal room-small 0) (refusal-by g c (fine .0) (fine .1) (over-passes (tree g) c (over (subst (Exceeds (tree g)) rooms-before exceeds))))
+      refuses (refusal room-small 0) (refusal-by g c (fine .0) (fine .1) ((over-iff (tree g) c) .1 (over (subst (Exceeds (tree g)) rooms-before exceeds))))
       (λ z. omega arith) cleared
     where
       over : Exceeds (tree g) (rooms-of c) → OverRoom (tree g) c
@@ -168,7 +134,7 @@ module _ (g : Table) {c c₁ : Lent} {rooms : Counts} (fine : (even c ≡ true) 
     pub built-whole : SameLengths c c′ → Build.Built g c (answer (Built (k .states) (k .rows) (k .arcs))) c′
     built-whole lengths =
         let z : (build-refusal g c) .number ≡ 0 =
-        ap (λ (r : Refusal). r .number) (refusal-by g c (fine .0) (fine .1) (false-of (over-room (tree g) c) (λ o. fits (over-found (tree g) c o)))) in
+        ap (λ (r : Refusal). r .number) (refusal-by g c (fine .0) (fine .1) (false-of (over-room (tree g) c) (λ o. fits ((over-iff (tree g) c) .0 o)))) in
         record {
           answers =
               (λ i. record { refusal = success; states = all-states p i; expressions = all-rows p i; arcs = all-arcs p i })

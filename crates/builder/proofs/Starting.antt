@@ -1,7 +1,7 @@
--- State 0: the literal empty word as row 0, the given expression behind it. Assumes nothing.
-use Prim.Native.Nat.{ℕ, zero, suc, _-_, _≤_, _<_}
+-- State 0: the literal empty word as row 0, the given expression after it.
+use Prim.Native.Nat.{ℕ, _-_, _≤_, _<_}
 use native.Mathlib.Numerals.{sub-one}
-use native.Mathlib.Nat.{le-refl, lt-of-lt-of-le, zero-lt-suc, sub-zero}
+use native.Mathlib.Nat.{le-refl, lt-of-lt-of-le, zero-lt-suc}
 use native.Mathlib.Omega.{arith}
 use mathlib.Core.Path.{_≡_, refl, sym, ap, _∙_, subst}
 use mathlib.Core.Logic.{_⊎_, inl, inr, ⊎-elim}
@@ -22,25 +22,18 @@ use Rattle.theory.proofs.Sound.{faultless-sound}
 use Rattle.theory.proofs.WellFormed.{well-formed, tree-last}
 use Rattle.theory.proofs.States.{states-some, states-first}
 use Rattle.theory.proofs.Nearing.{parts-needed, ε-needed}
-use Rattle.theory.proofs.Meetings.{so-far}
+use Rattle.theory.specs.Meetings.{so-far}
+use Rattle.theory.specs.Arcs.{ArcColumns, arc-columns, no-arcs, filled-arcs}
+use Rattle.theory.proofs.Column.{getD-zeros, zero-filled, column-more}
 use Rattle.derive.specs.Rows.{Rows, Short, SoundTo}
 use Rattle.derive.proofs.Taking.{Took}
-use Rattle.builder.specs.Progress.{Progress, Exceeds, Begins, Standing, Begun, Started}
+use Rattle.builder.specs.Progress.{Progress, Exceeds, Begins, Blank, Standing, Started}
 use Rattle.builder.specs.declared.arcs.Counts.{Counts}
-use Rattle.builder.specs.declared.arcs.Went.{Went}
-use Rattle.builder.proofs.Adding.{column-more, names-more}
+use Rattle.builder.proofs.Adding.{names-more}
 use Rattle.builder.proofs.Lengths.{SameLengths}
-
-getD-zeros : (n i : ℕ) → getD (zeros n) i 0 ≡ 0
-getD-zeros zero i = refl
-getD-zeros (suc n) zero = refl
-getD-zeros (suc n) (suc i) = getD-zeros n i
 
 zero-at : (column : List ℕ) (i : ℕ) → column ≡ zeros (length column) → getD column i 0 ≡ 0
 zero-at column i e = ap (λ (c : List ℕ). getD c i 0) e ∙ getD-zeros (length column) i
-
-zero-column : (column : List ℕ) → column ≡ zeros (length column) → column ≡ filled (length column) []
-zero-column column e = e ∙ ap zeros (sym (sub-zero (length column)))
 
 -- The given expression is needed as a state.
 pub root-state : (e : Expression) → List·Memᴰ e (states e)
@@ -55,7 +48,12 @@ module _ {rooms : Counts} {t : Table} {expression accepting : List ℕ} (h : Beg
 
   blank-row : (i : ℕ) → 1 ≤ i → row with-ε i ≡ entry 0 0 0
   blank-row i l =
-      rw (getD-set-other (t .kind) 0 i 1 0 (λ e. omega arith), zero-at (t .kind) i (h .kind-zero), zero-at (t .left) i (h .left-zero), zero-at (t .right) i (h .right-zero))
+      rw (
+        getD-set-other (t .kind) 0 i 1 0 (λ e. omega arith),
+        zero-at (t .kind) i (h .kind-zero),
+        zero-at (t .left) i (h .left-zero),
+        zero-at (t .right) i (h .right-zero),
+      )
 
   module _ (some : 0 < rooms .rows) where
     space : 0 < length (t .kind)
@@ -107,7 +105,7 @@ module _ {rooms : Counts} {t : Table} {expression accepting : List ℕ} (h : Beg
           no-arc = refl;
           named = names-more expression [] 0 r x none refl (lt-of-lt-of-le room (h .states-in)) (k .there) (k .is);
           flags =
-              column-more accepting [] 0 b (zero-column accepting (h .accepting-zero)) refl (lt-of-lt-of-le room (h .accepting-in))
+              column-more accepting [] 0 b (h .accepting-zero ∙ zero-filled (length accepting)) refl (lt-of-lt-of-le room (h .accepting-in))
               ∙ ap (λ (v : ℕ). filled (length (set accepting 0 b)) (v ∷ [])) (flag ∙ ap (λ y. cond (empty-word y) 1 0) (k .is));
           state-room = room;
         })
@@ -144,17 +142,9 @@ given-root g e = tree-last (well-formed g e) ∙ ap (tree-at g) (sym (sub-one (s
 
 -- ---- Nothing is met yet
 
--- All lent columns before the first state.
-pub record Blank (rooms : Counts) (c : Lent) : Type 0 where
-  pub begins : Begins rooms (c .rows) (c .expression) (c .accepting)
-  pub states-small : rooms .states ≤ 65535
-  pub arcs-small : rooms .arcs ≤ 16777216
-  pub from-zero : c .from ≡ zeros (length (c .from))
-  pub letter-zero : c .letter ≡ zeros (length (c .letter))
-  pub to-zero : c .to ≡ zeros (length (c .to))
-  pub from-in : rooms .arcs ≤ length (c .from)
-  pub letter-in : rooms .arcs ≤ length (c .letter)
-  pub to-in : rooms .arcs ≤ length (c .to)
+no-arcs-filled : (c : ArcColumns) → no-arcs c ≡ filled-arcs c []
+no-arcs-filled c =
+    λ i. arc-columns (zero-filled (length (c .from)) i) (zero-filled (length (c .letter)) i) (zero-filled (length (c .to)) i)
 
 pub one-so-far : (e : Expression) → so-far e [] ≡ e ∷ []
 unfolding so-far distinct without
@@ -165,10 +155,10 @@ module _ {e : Expression} {rooms k : Counts} {t : Table} {column flags : List �
   standing-root = h .named .named 0 (omega arith)
 
   -- From blank columns, of which `start` has changed those of rows and states.
-  pub standing-started : {c : Lent} → Blank rooms c → SameLengths c (lent t column flags (c .from) (c .letter) (c .to))
-      → Started (lent t column flags (c .from) (c .letter) (c .to)) rooms k
+  pub standing-started : {c : Lent} → Blank rooms c → SameLengths c (lent t column flags (c .arcs))
+      → Started (lent t column flags (c .arcs)) rooms k
   standing-started {c} b l =
-      let c′ = lent t column flags (c .from) (c .letter) (c .to) in
+      let c′ = lent t column flags (c .arcs) in
       record {
         progress =
             subst (λ x. Progress x [] c′ k) (sym standing-root)
@@ -179,9 +169,7 @@ module _ {e : Expression} {rooms k : Counts} {t : Table} {column flags : List �
               named = subst (Names t (k .rows) column) (sym (one-so-far e)) (h .named);
               accepting = h .flags ∙ ap (λ xs. filled (length flags) (map (λ x. cond (empty-word x) 1 0) xs)) (sym (one-so-far e));
               arc-count = h .no-arc;
-              from = zero-column (c .from) (b .from-zero);
-              letter = zero-column (c .letter) (b .letter-zero);
-              to = zero-column (c .to) (b .to-zero);
+              arcs = b .arcs-zero ∙ no-arcs-filled (c .arcs);
             });
         roomy =
             record {
@@ -190,16 +178,10 @@ module _ {e : Expression} {rooms k : Counts} {t : Table} {column flags : List �
               states-in = omega (arith, b .begins .states-in, l .expression);
               accepting-in = omega (arith, b .begins .accepting-in, l .accepting);
               states-small = b .states-small;
+              arcs-in = b .arcs-in;
               arcs-small = b .arcs-small;
-              from-in = b .from-in;
-              letter-in = b .letter-in;
-              to-in = b .to-in;
               rows-fit = h .rows-fit;
               states-fit = omega (arith, h .one-state, h .state-room);
               arcs-fit = omega (arith, h .no-arc);
             };
       }
-
--- The answer of `start`, told by a match.
-pub begun-as : (e : Expression) (rooms : Counts) (t : Table) (x a : List ℕ) {w w′ : Went} → w ≡ w′ → Begun e rooms w t x a → Begun e rooms w′ t x a
-begun-as e rooms t x a q h = subst (λ v. Begun e rooms v t x a) q h

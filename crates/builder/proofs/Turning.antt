@@ -1,44 +1,30 @@
--- From letter to letter and from state to state, until every state so far has been left by every letter. Assumes nothing.
+-- From letter to letter and from state to state, until every state so far has been left by every letter.
 use Prim.Native.Nat.{ℕ, _+_, _*_, _-_, _≤_, _<_}
 use native.Mathlib.Numerals.{add-one}
 use native.Mathlib.Omega.{arith}
-use mathlib.Core.Path.{_≡_, refl, sym, ap, ap₂, _∙_, subst}
+use mathlib.Core.Path.{_≡_, refl, sym, ap, _∙_, subst}
 use mathlib.Core.Logic.{⊎-elim}
-use mathlib.Core.Bool.{Bool, false, _&&_, true≢false}
-use mathlib.Core.List.{List, [], flatMap}
+use mathlib.Core.Bool.{false}
+use mathlib.Core.List.{[], flatMap}
 use lib.ListN.{length, getD}
-use lib.Dec.{eqb}
-use borrow.Author.Tests.{eq-eqb}
 use Rattle.theory.specs.Expression.{Expression, ∅}
 use Rattle.theory.specs.Derivative.{derivative}
 use Rattle.theory.specs.Automaton.{states, ascending}
-use Rattle.theory.specs.Table.{table, tree}
 use Rattle.theory.specs.Build.{Lent}
-use Rattle.theory.proofs.Below.{some-at}
-use Rattle.theory.proofs.Used.{letters-entered}
 use Rattle.theory.proofs.Distinct.{getD-member}
-use Rattle.theory.proofs.Meetings.{meetings, before, by-letters, by-states, so-far, before-skip, before-state}
-use Rattle.theory.proofs.Nearing.{Starts, starts-before, states-enough, unused-nothing, all-left}
-use Rattle.builder.specs.Letters.{uses, IsNext, IsTurn}
+use Rattle.theory.specs.Limit.{most-states, last-letter}
+use Rattle.theory.specs.Meetings.{meetings, before, by-letters, by-states, Starts, so-far}
+use Rattle.theory.proofs.Meetings.{before-skip, before-state}
+use Rattle.theory.proofs.Nearing.{starts-before, states-enough, unused-nothing, all-left}
+use Rattle.builder.specs.Letters.{used, IsNext, IsTurn}
+use Rattle.builder.specs.declared.letters.Letters.{Letters}
 use Rattle.builder.specs.declared.letters.Next.the-variants.{Letter, Over}
-use Rattle.builder.specs.declared.letters.Turn.{Turn}
 use Rattle.builder.specs.declared.letters.Turn.the-variants.{To}
-use Rattle.builder.specs.Progress.{Progress, Knows, Started, Reaches, root}
+use Rattle.builder.specs.Progress.{Progress, Knows, Started, root}
 use Rattle.builder.specs.declared.arcs.Counts.{Counts}
-use Rattle.builder.specs.declared.arcs.Went.{Went}
 use Rattle.derive.specs.declared.walk.Place.the-variants.{Start}
 use Rattle.builder.proofs.Starting.{one-so-far}
 use Rattle.builder.proofs.Walking.{AtMember, AtLetter, member-first}
-
--- The letters gathered are those of the given expression.
-pub gathered-knows : (kind left right : List ℕ) (used : List Bool) → ((a : ℕ) → a < 256 → getD used a false ≡ uses kind left a) → Knows used (tree (table kind left right))
-unfolding uses
-gathered-knows kind left right used h a l q m =
-    let r = letters-entered (table kind left right) a m in
-    true≢false
-    (sym (some-at (length kind) (λ i. eqb (getD kind i 0) 2 && eqb (getD left i 0) a) (r .0) (r .1)
-    (ap₂ _&&_ (eq-eqb (getD kind (r .0) 0) 2 (r .2)) (eq-eqb (getD left (r .0) 0) a (r .3))))
-    ∙ sym (h a l) ∙ q)
 
 -- ---- Before the first letter
 
@@ -61,12 +47,16 @@ started {c} {rooms} {k} h =
 
 -- ---- The next letter, the next state, the end
 
-module _ {e : Expression} (used : List Bool) (knows : Knows used e) {rooms : Counts} {c : Lent} {k : Counts} where
-  -- By letters that are not used nothing is met.
-  nothing : {i a : ℕ} → AtLetter e i a rooms c k → (b : ℕ) → b ≤ 255 → getD used b false ≡ false → derivative b (getD (states e) i ∅) ≡ []
-  nothing {i} m b l q = unused-nothing e (getD (states e) i ∅) b (getD-member (states e) i ∅ (m .within)) (knows b (omega arith) q)
+-- The pairs of a state and a letter that are left, where state i is left by the letter a.
+abbrev pub turns-left : ℕ → ℕ → ℕ
+turns-left i a = (most-states + 1) * (last-letter + 1) - (i * (last-letter + 1) + a)
 
-  pub next-letter : {i a b : ℕ} → AtLetter e i a rooms c k → IsNext (λ j. getD used j false) a (Letter b)
+module _ {e : Expression} (gathered : Letters) (knows : Knows gathered e) {rooms : Counts} {c : Lent} {k : Counts} where
+  -- By letters that are not used nothing is met.
+  nothing : {i a : ℕ} → AtLetter e i a rooms c k → (b : ℕ) → b ≤ last-letter → used gathered b ≡ false → derivative b (getD (states e) i ∅) ≡ []
+  nothing {i} m b l q = unused-nothing e (getD (states e) i ∅) b (getD-member (states e) i ∅ (m .within)) (knows b l q)
+
+  pub next-letter : {i a b : ℕ} → AtLetter e i a rooms c k → IsNext gathered a (Letter b)
       → AtMember e i b (getD (c .expression) i 0) rooms Start c k
   next-letter {i} {a} {b} m next =
       let above = next .0 in
@@ -75,11 +65,12 @@ module _ {e : Expression} (used : List Bool) (knows : Knows used e) {rooms : Cou
       before-skip e i a (b - 1) (omega arith) (λ j l u. nothing m j (omega arith) (next .3 j l (omega arith))) in
       member-first (subst (λ ms. Progress e ms c k) (sym skipped) (m .progress)) (m .roomy) (m .state) (m .within) (omega arith) most
 
-  all-letters : {i a : ℕ} → AtLetter e i a rooms c k → IsNext (λ j. getD used j false) a Over → before e i a ≡ before e (i + 1) 0
+  all-letters : {i a : ℕ} → AtLetter e i a rooms c k → IsNext gathered a Over → before e i a ≡ before e (i + 1) 0
   all-letters {i} {a} m over =
-      sym (before-skip e i a 255 (m .high) (λ j l u. nothing m j u (over j l u))) ∙ before-state e i (m .within) ∙ ap (λ (n : ℕ). before e n 0) (sym (add-one i))
+      sym (before-skip e i a last-letter (m .high) (λ j l u. nothing m j u (over j l u))) ∙ before-state e i (m .within)
+      ∙ ap (λ (n : ℕ). before e n 0) (sym (add-one i))
 
-  next-state : {i a : ℕ} → AtLetter e i a rooms c k → IsNext (λ j. getD used j false) a Over → i + 1 < k .states → AtLetter e (i + 1) 0 rooms c k
+  next-state : {i a : ℕ} → AtLetter e i a rooms c k → IsNext gathered a Over → i + 1 < k .states → AtLetter e (i + 1) 0 rooms c k
   next-state {i} {a} m over more =
       record {
         progress = subst (λ ms. Progress e ms c k) (all-letters m over) (m .progress);
@@ -90,15 +81,15 @@ module _ {e : Expression} (used : List Bool) (knows : Knows used e) {rooms : Cou
       }
 
   -- Every state so far has been left: nothing is missing.
-  pub all-met : {i a : ℕ} → AtLetter e i a rooms c k → k .states ≤ i + 1 → IsNext (λ j. getD used j false) a Over → Progress e (meetings e) c k
+  pub all-met : {i a : ℕ} → AtLetter e i a rooms c k → k .states ≤ i + 1 → IsNext gathered a Over → Progress e (meetings e) c k
   all-met {i} {a} m last over =
       let q = all-letters m over in
       let p : Progress e (before e (i + 1) 0) c k = subst (λ ms. Progress e ms c k) q (m .progress) in
       subst (λ ms. Progress e ms c k)
       (all-left e (i + 1) (subst (Starts e) q (starts-before e i a (m .within) (m .high))) (omega (arith, m .state, p .state-count))) p
 
-  module _ {first : ℕ} (least : IsNext (λ j. getD used j false) 0 (Letter first)) {i a : ℕ} (m : AtLetter e i a rooms c k) {j b : ℕ}
-      (turn : IsTurn (λ l. getD used l false) first i a (k .states) (To j b)) where
+  module _ {first : ℕ} (least : IsNext gathered 0 (Letter first)) {i a : ℕ} (m : AtLetter e i a rooms c k) {j b : ℕ}
+      (turn : IsTurn gathered first i a (k .states) (To j b)) where
     pub turned : AtMember e j b (getD (c .expression) j 0) rooms Start c k
     turned =
         ⊎-elim (λ t. subst (λ (n : ℕ). AtMember e n b (getD (c .expression) n 0) rooms Start c k) (sym (t .0)) (next-letter m (t .1)))
@@ -109,22 +100,14 @@ module _ {e : Expression} (used : List Bool) (knows : Knows used e) {rooms : Cou
         turn
 
     -- What is left of the states and letters falls.
-    pub turned-less : 16777216 - (j * 256 + b) < 16777216 - (i * 256 + a)
+    pub turned-less : turns-left j b < turns-left i a
     turned-less =
         let h = turned in
         ⊎-elim (λ t. omega (arith, t .0, t .1 .0, m .high, m .state, m .roomy .states-fit, m .roomy .states-small, h .high))
         (λ t. omega (arith, t .0, t .1, h .low, m .high, m .state, m .roomy .states-fit, m .roomy .states-small, h .high)) turn
 
 -- No letter is used at all.
-pub none-met : (used : List Bool) {c : Lent} {rooms k : Counts} → Knows used (root c) → Started c rooms k → IsNext (λ j. getD used j false) 0 Over
+pub none-met : (gathered : Letters) {c : Lent} {rooms k : Counts} → Knows gathered (root c) → Started c rooms k → IsNext gathered 0 Over
     → Progress (root c) (meetings (root c)) c k
-none-met used {c} knows h over =
-    all-met used knows (started h) (omega (arith, h .progress .state-count ∙ ap length (one-so-far (root c)))) over
-
--- ---- Answers told by a match
-
-pub turn-as : (used : ℕ → Bool) (first i a states : ℕ) {t t′ : Turn} → t ≡ t′ → IsTurn used first i a states t → IsTurn used first i a states t′
-turn-as used first i a states q h = subst (IsTurn used first i a states) q h
-
-pub reaches-as : {e : Expression} {rooms : Counts} {w w′ : Went} {c : Lent} → w ≡ w′ → Reaches e rooms w c → Reaches e rooms w′ c
-reaches-as {e} {rooms} {c = c} q r = subst (λ v. Reaches e rooms v c) q r
+none-met gathered {c} knows h over =
+    all-met gathered knows (started h) (omega (arith, h .progress .state-count ∙ ap length (one-so-far (root c)))) over

@@ -1,4 +1,4 @@
--- The members of the derivative of a state by a letter, met one by one. Assumes nothing.
+-- The members of the derivative of a state by a letter, met one by one.
 use Prim.Native.Nat.{ℕ, suc, _-_, _≤_, _<_}
 use native.Mathlib.Nat.{lt-of-lt-of-le, le-trans, le-of-eq}
 use native.Mathlib.Omega.{arith}
@@ -10,19 +10,18 @@ use lib.Seq.{take-append-seam}
 use Rattle.theory.specs.Expression.{Expression, ∅, same, parts}
 use Rattle.theory.specs.Distinct.{distinct, NoRepeats, Within}
 use Rattle.theory.specs.Derivative.{derivative}
-use Rattle.theory.specs.Automaton.{states, expressions, successors, Derived}
+use Rattle.theory.specs.Automaton.{states, expressions}
 use Rattle.theory.specs.Table.{Table, trees, tree-at}
 use Rattle.theory.specs.Build.{Lent, lent}
-use Rattle.theory.proofs.Distinct.{no-longer, getD-member}
+use Rattle.theory.proofs.Distinct.{no-longer}
 use Rattle.theory.proofs.Derivative.{derivative-no-repeats}
-use Rattle.theory.proofs.Accepts.Arcs.{to-alphabet}
-use Rattle.theory.proofs.Members.{to-flatMap}
-use Rattle.theory.proofs.Meetings.{Meeting, meeting, meetings, before, so-far, so-far-begins, before-letter}
-use Rattle.theory.proofs.Nearing.{Starts, starts-before, starts-member, states-begin, parts-needed}
-use Rattle.theory.proofs.States.{states-derived, derived-states}
+use Rattle.theory.proofs.Accepts.Arcs.{alphabet-iff, member-state}
+use Rattle.theory.specs.Limit.{last-letter}
+use Rattle.theory.specs.Meetings.{Meeting, meeting, meetings, before, Starts, so-far}
+use Rattle.theory.proofs.Meetings.{so-far-begins, before-letter}
+use Rattle.theory.proofs.Nearing.{starts-before, starts-member, states-begin, parts-needed}
 use Rattle.derive.specs.Rows.{Grown, Needed, Short}
-use Rattle.derive.specs.Walk.{to-come, In-list, Steps, Gives, first-of, behind}
-use Rattle.derive.specs.declared.walk.Stepped.{Stepped}
+use Rattle.derive.specs.Walk.{to-come, In-list, Steps, first-of, behind}
 use Rattle.derive.specs.declared.walk.Stepped.the-variants.{Found, End}
 use Rattle.derive.specs.declared.walk.Place.{Place}
 use Rattle.derive.specs.declared.walk.Place.the-variants.{Start, Behind}
@@ -30,7 +29,6 @@ use Rattle.derive.proofs.Growing.{grown-tree}
 use Rattle.derive.proofs.Listing.{first-some, first-none, behind-second, behind-head}
 use Rattle.builder.specs.Progress.{Progress, Roomy, Exceeds, Ready, Meets, Met, met-so-far, next-met, root}
 use Rattle.builder.specs.declared.arcs.Counts.{Counts}
-use Rattle.builder.specs.declared.arcs.Went.{Went}
 use Rattle.builder.specs.declared.arcs.Went.the-variants.{On, NoRoom}
 use Rattle.builder.proofs.Adding.{starts-less}
 
@@ -57,7 +55,7 @@ to-ready {e} {done} {c} {rooms} {k} s p o =
 -- ---- Rows that come
 
 abbrev pub with-rows : Lent → Table → Lent
-with-rows c t = lent t (c .expression) (c .accepting) (c .from) (c .letter) (c .to)
+with-rows c t = lent t (c .expression) (c .accepting) (c .arcs)
 
 abbrev pub with-count : Counts → ℕ → Counts
 with-count k n = record { rows = n; states = k .states; arcs = k .arcs }
@@ -77,13 +75,11 @@ progress-grown {e} {done} {c} {k} {t} {n} p g within =
           };
       accepting = p .accepting;
       arc-count = p .arc-count;
-      from = p .from;
-      letter = p .letter;
-      to = p .to;
+      arcs = p .arcs;
     }
 
-roomy-grown : {c : Lent} {rooms k : Counts} {t : Table} {n : ℕ} → Roomy c rooms k → Grown (c .rows) (k .rows) t n → n ≤ rooms .rows → length (t .kind) ≡ length (c .rows .kind)
-    → Roomy (with-rows c t) rooms (with-count k n)
+roomy-grown : {c : Lent} {rooms k : Counts} {t : Table} {n : ℕ} → Roomy c rooms k → Grown (c .rows) (k .rows) t n → n ≤ rooms .rows
+    → length (t .kind) ≡ length (c .rows .kind) → Roomy (with-rows c t) rooms (with-count k n)
 roomy-grown o g fits same-length =
     record {
       rows-in = le-trans (o .rows-in) (le-of-eq (sym same-length));
@@ -91,10 +87,8 @@ roomy-grown o g fits same-length =
       states-in = o .states-in;
       accepting-in = o .accepting-in;
       states-small = o .states-small;
+      arcs-in = o .arcs-in;
       arcs-small = o .arcs-small;
-      from-in = o .from-in;
-      letter-in = o .letter-in;
-      to-in = o .to-in;
       rows-fit = fits;
       states-fit = o .states-fit;
       arcs-fit = o .arcs-fit;
@@ -120,7 +114,7 @@ pub record AtMember (e : Expression) (i a r : ℕ) (rooms : Counts) (place : Pla
   pub state : i < k .states
   pub within : i < length (states e)
   pub low : 1 ≤ a
-  pub high : a ≤ 255
+  pub high : a ≤ last-letter
 
 -- State i has been left by all letters up to a.
 pub record AtLetter (e : Expression) (i a : ℕ) (rooms : Counts) (c : Lent) (k : Counts) : Type 0 where
@@ -128,9 +122,9 @@ pub record AtLetter (e : Expression) (i a : ℕ) (rooms : Counts) (c : Lent) (k 
   pub roomy : Roomy c rooms k
   pub state : i < k .states
   pub within : i < length (states e)
-  pub high : a ≤ 255
+  pub high : a ≤ last-letter
 
--- What stands behind a member of a list without repeats.
+-- What stands after a member of a list without repeats.
 behind-split : {ys : List Expression} (q : Expression) (xs zs : List Expression) → NoRepeats (xs ++ (q ∷ zs)) → ys ≡ xs ++ (q ∷ zs) → behind q ys ≡ zs
 behind-split q xs zs once e =
     ap (behind q) e ∙ behind-second q xs (q ∷ zs) (λ m. not-both xs once m) ∙ behind-head q zs
@@ -141,7 +135,7 @@ behind-split q xs zs once e =
 
 -- At the start of the list.
 pub member-first : {e : Expression} {i a : ℕ} {rooms : Counts} {c : Lent} {k : Counts} → Progress e (before e i (a - 1)) c k → Roomy c rooms k
-    → i < k .states → i < length (states e) → 1 ≤ a → a ≤ 255 → AtMember e i a (getD (c .expression) i 0) rooms Start c k
+    → i < k .states → i < length (states e) → 1 ≤ a → a ≤ last-letter → AtMember e i a (getD (c .expression) i 0) rooms Start c k
 member-first {e} {i} {a} {rooms} {c} {k} p o state within low high =
     let many : i < length (so-far e (before e i (a - 1))) = subst (λ (n : ℕ). i < n) (p .state-count) state in
     let b = states-begin (starts-before e i (a - 1) within (omega arith)) in
@@ -173,12 +167,7 @@ module _ {e : Expression} {i a r : ℕ} {rooms : Counts} {place : Place} {c : Le
 
   -- A member is a state, so its parts are needed.
   member-needed : (y : Expression) → List·Memᴰ y (derivative a (getD (states e) i ∅)) → Within (parts y) (expressions e)
-  unfolding successors
-  member-needed y h =
-      let z = getD (states e) i ∅ in
-      parts-needed e y
-      (derived-states
-      (Derived.onward (states-derived e z (getD-member (states e) i ∅ (m .within))) (to-flatMap (λ b. derivative b z) (to-alphabet a (m .low) (m .high)) h)))
+  member-needed y h = parts-needed e y (member-state e i (m .within) a ((alphabet-iff a) .1 (m .low, m .high)) y h)
 
   all-needed : (z : Expression) → Needed (c .rows) (k .rows) (derivative a (tree-at (c .rows) r)) z → List·Memᴰ z (expressions e)
   all-needed z = ⊎-elim (m .progress .needed z) (λ q. member-needed (q .0) (subst (List·Memᴰ (q .0)) list-is (q .1)) z (q .2))
@@ -267,7 +256,8 @@ module _ {e : Expression} {i a r : ℕ} {rooms : Counts} {place : Place} {c : Le
             coming = come;
             state =
                 (let b = so-far-begins e (met-at e i a (m .met)) (meeting i a (tree-at t row) ∷ []) in
-                omega (arith, m .state, m .progress .state-count, after .state-count, ap length (b .goes-on), length-append (so-far e (met-at e i a (m .met))) (b .rest)));
+                let more = length-append (so-far e (met-at e i a (m .met))) (b .rest) in
+                omega (arith, m .state, m .progress .state-count, after .state-count, ap length (b .goes-on)));
             within = m .within;
             low = m .low;
             high = m .high;
@@ -275,7 +265,8 @@ module _ {e : Expression} {i a r : ℕ} {rooms : Counts} {place : Place} {c : Le
 
       pub member-less : rooms .arcs - k′ .arcs < rooms .arcs - k .arcs
       member-less =
-          omega (arith, m .progress .arc-count, after .arc-count, length-append (met-at e i a (m .met)) (meeting i a (tree-at t row) ∷ []), w .goes .1 .arcs-fit)
+          let more = length-append (met-at e i a (m .met)) (meeting i a (tree-at t row) ∷ []) in
+          omega (arith, m .progress .arc-count, after .arc-count, w .goes .1 .arcs-fit)
 
   -- The list is at its end.
   pub member-end : {n : ℕ} {t : Table} → length (t .kind) ≡ length (c .rows .kind)
@@ -297,11 +288,3 @@ module _ {e : Expression} {i a r : ℕ} {rooms : Counts} {place : Place} {c : Le
         within = m .within;
         high = m .high;
       }
-
--- ---- Answers told by a match
-
-pub gives-as : {t t′ : Table} {n room : ℕ} {ms xs : List Expression} {r r′ : Stepped} → r ≡ r′ → Gives t n room ms xs r t′ → Gives t n room ms xs r′ t′
-gives-as {t} {t′} {n} {room} {ms} {xs} q g = subst (λ s. Gives t n room ms xs s t′) q g
-
-pub met-as : {c c′ : Lent} {k rooms : Counts} {i a r : ℕ} {w w′ : Went} → w ≡ w′ → Met c k rooms i a r w c′ → Met c k rooms i a r w′ c′
-met-as {c} {c′} {k} {rooms} {i} {a} {r} q m = subst (λ v. Met c k rooms i a r v c′) q m

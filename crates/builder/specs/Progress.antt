@@ -1,20 +1,23 @@
 -- How far the automaton of e stands in the lent columns: what is met so far, in 01's order, and what the columns then hold.
 use Prim.Native.Nat.{ℕ, _≤_, _<_}
 use mathlib.Core.Path.{_≡_}
-use mathlib.Core.Bool.{Bool, false, cond}
+use mathlib.Core.Bool.{false, cond}
 use mathlib.Core.Logic.{_⊎_}
 use mathlib.Core.List.{List, [], _∷_, _++_, map, List·Memᴰ}
 use lib.ListN.{length, getD, take}
-use Rattle.theory.specs.Expression.{Expression, same, letters}
-use Rattle.theory.specs.Distinct.{place, Within}
+use Rattle.theory.specs.Limit.{most-expressions, most-states, most-arcs, last-letter}
+use Rattle.theory.specs.Expression.{Expression, letters}
+use Rattle.theory.specs.Distinct.{Within}
 use Rattle.theory.specs.Derivative.{empty-word}
 use Rattle.theory.specs.Automaton.{states, arcs, expressions}
+use Rattle.theory.specs.Meetings.{Meeting, meeting, meetings, Starts, so-far, to-arc}
 use Rattle.theory.specs.Column.{zeros, filled}
 use Rattle.theory.specs.Table.{Table, trees, tree-at}
+use Rattle.theory.specs.Arcs.{Spans, no-arcs, filled-arcs}
 use Rattle.theory.specs.Build.{Lent, Names}
-use Rattle.theory.proofs.Meetings.{Meeting, meeting, meetings, so-far}
-use Rattle.theory.proofs.Nearing.{Starts}
 use Rattle.derive.specs.Rows.{Rows}
+use Rattle.builder.specs.Letters.{used}
+use Rattle.builder.specs.declared.letters.Letters.{Letters}
 use Rattle.builder.specs.declared.arcs.Counts.{Counts}
 use Rattle.builder.specs.declared.arcs.Went.{Went}
 use Rattle.builder.specs.declared.arcs.Went.the-variants.{On, NoRoom}
@@ -27,21 +30,17 @@ pub record Progress (e : Expression) (done : List Meeting) (c : Lent) (k : Count
   pub named : Names (c .rows) (k .rows) (c .expression) (so-far e done)
   pub accepting : c .accepting ≡ filled (length (c .accepting)) (map (λ x. cond (empty-word x) 1 0) (so-far e done))
   pub arc-count : k .arcs ≡ length done
-  pub from : c .from ≡ filled (length (c .from)) (map (λ (m : Meeting). m .from) done)
-  pub letter : c .letter ≡ filled (length (c .letter)) (map (λ (m : Meeting). m .letter) done)
-  pub to : c .to ≡ filled (length (c .to)) (map (λ (m : Meeting). place same (m .target) (states e)) done)
+  pub arcs : c .arcs ≡ filled-arcs (c .arcs) (map (to-arc (states e)) done)
 
 -- The rooms that the columns have, and that the counts keep within.
 pub record Roomy (c : Lent) (rooms k : Counts) : Type 0 where
   pub rows-in : rooms .rows ≤ length (c .rows .kind)
-  pub rows-small : rooms .rows ≤ 65535
+  pub rows-small : rooms .rows ≤ most-expressions
   pub states-in : rooms .states ≤ length (c .expression)
   pub accepting-in : rooms .states ≤ length (c .accepting)
-  pub states-small : rooms .states ≤ 65535
-  pub arcs-small : rooms .arcs ≤ 16777216
-  pub from-in : rooms .arcs ≤ length (c .from)
-  pub letter-in : rooms .arcs ≤ length (c .letter)
-  pub to-in : rooms .arcs ≤ length (c .to)
+  pub states-small : rooms .states ≤ most-states
+  pub arcs-in : Spans (c .arcs) (rooms .arcs)
+  pub arcs-small : rooms .arcs ≤ most-arcs
   pub rows-fit : k .rows ≤ rooms .rows
   pub states-fit : k .states ≤ rooms .states
   pub arcs-fit : k .arcs ≤ rooms .arcs
@@ -104,9 +103,17 @@ pub record Begins (rooms : Counts) (t : Table) (expression accepting : List ℕ)
   pub expression-zero : expression ≡ zeros (length expression)
   pub accepting-zero : accepting ≡ zeros (length accepting)
   pub rows-in : rooms .rows ≤ length (t .kind)
-  pub rows-small : rooms .rows ≤ 65535
+  pub rows-small : rooms .rows ≤ most-expressions
   pub states-in : rooms .states ≤ length expression
   pub accepting-in : rooms .states ≤ length accepting
+
+-- All lent columns before the first state.
+pub record Blank (rooms : Counts) (c : Lent) : Type 0 where
+  pub begins : Begins rooms (c .rows) (c .expression) (c .accepting)
+  pub states-small : rooms .states ≤ most-states
+  pub arcs-zero : c .arcs ≡ no-arcs (c .arcs)
+  pub arcs-in : Spans (c .arcs) (rooms .arcs)
+  pub arcs-small : rooms .arcs ≤ most-arcs
 
 -- The given expression stands as state 0.
 pub record Standing (e : Expression) (rooms k : Counts) (t : Table) (expression accepting : List ℕ) : Type 0 where
@@ -123,9 +130,9 @@ abbrev pub Begun : Expression → Counts → Went → Table → List ℕ → Lis
 Begun e rooms (On k) t expression accepting = Standing e rooms k t expression accepting
 Begun e rooms NoRoom t expression accepting = Exceeds e rooms
 
--- Letters that are not marked are none of e's.
-abbrev pub Knows : List Bool → Expression → Type 0
-Knows used e = (a : ℕ) → a < 256 → getD used a false ≡ false → List·Memᴰ a (letters e) → ⊥
+-- Letters that are not used are none of e's.
+abbrev pub Knows : Letters → Expression → Type 0
+Knows gathered e = (a : ℕ) → a ≤ last-letter → used gathered a ≡ false → List·Memᴰ a (letters e) → ⊥
 
 -- State 0 stands, and nothing is met yet.
 pub record Started (c : Lent) (rooms k : Counts) : Type 0 where

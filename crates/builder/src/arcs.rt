@@ -3,8 +3,10 @@
 ghost use mathlib.Core.Path.{_≡_};
 ghost use Prim.Native.Nat.{_≤_, _<_};
 ghost use mathlib.Core.Bool.{cond};
-ghost use lib.ListN.{length, set};
+ghost use lib.ListN.{length};
+ghost use Rattle.theory.specs.Automaton.{arc};
 ghost use Rattle.theory.specs.Table.{table};
+ghost use Rattle.theory.specs.Arcs.{arc-columns, with-arc};
 ghost use Rattle.theory.specs.Build.{lent};
 ghost use Rattle.builder.specs.Progress.{FirstEqual, Ready, Meets, Met};
 
@@ -36,9 +38,9 @@ fn find(expression: &[u16], states: usize, row: usize) -> usize
 
 fn store(n: usize, i: u16, a: u8, j: u16, from: &mut [u16], letter: &mut [u8], to: &mut [u16])
     requires { ⌜ (n < length (now from)) × (n < length (now letter)) × (n < length (now to)) ⌝ }
-    ensures { λ _. ⌜ now (from .exit) ≡ set (now (from .entry)) n i ⌝ }
-    ensures { λ _. ⌜ now (letter .exit) ≡ set (now (letter .entry)) n a ⌝ }
-    ensures { λ _. ⌜ now (to .exit) ≡ set (now (to .entry)) n j ⌝ }
+    ensures { λ _.
+        ⌜ arc-columns (now (from .exit)) (now (letter .exit)) (now (to .exit))
+        ≡ with-arc (arc-columns (now (from .entry)) (now (letter .entry)) (now (to .entry))) n (arc i a j) ⌝ }
 {
     from[n] = i;
     letter[n] = a;
@@ -67,13 +69,19 @@ pub fn meet(
     letter: &mut [u8],
     to: &mut [u16],
 ) -> Went
-    requires { ⌜ Ready (lent (table (now xkind) (now xleft) (now xright)) (now expression) (now accepting) (now from) (now letter) (now to)) rooms counts ⌝ }
-    requires { ⌜ Meets (lent (table (now xkind) (now xleft) (now xright)) (now expression) (now accepting) (now from) (now letter) (now to)) counts i a row ⌝ }
+    requires { ⌜ Ready
+        (lent (table (now xkind) (now xleft) (now xright)) (now expression) (now accepting) (arc-columns (now from) (now letter) (now to)))
+        rooms counts ⌝ }
+    requires { ⌜ Meets
+        (lent (table (now xkind) (now xleft) (now xright)) (now expression) (now accepting) (arc-columns (now from) (now letter) (now to)))
+        counts i a row ⌝ }
     ensures { λ r.
-        ⌜ Met (lent (table (now (xkind .entry)) (now (xleft .entry)) (now (xright .entry))) (now (expression .entry)) (now (accepting .entry))
-        (now (from .entry)) (now (letter .entry)) (now (to .entry))) counts rooms i a row r
+        ⌜ Met
+        (lent (table (now (xkind .entry)) (now (xleft .entry)) (now (xright .entry))) (now (expression .entry)) (now (accepting .entry))
+        (arc-columns (now (from .entry)) (now (letter .entry)) (now (to .entry))))
+        counts rooms i a row r
         (lent (table (now (xkind .entry)) (now (xleft .entry)) (now (xright .entry))) (now (expression .exit)) (now (accepting .exit))
-        (now (from .exit)) (now (letter .exit)) (now (to .exit))) ⌝ }
+        (arc-columns (now (from .exit)) (now (letter .exit)) (now (to .exit)))) ⌝ }
 {
     let states = counts.states;
     let arcs = counts.arcs;

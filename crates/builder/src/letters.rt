@@ -1,14 +1,13 @@
 // The letters that a table uses, in ascending order.
 
-ghost use mathlib.Core.Path.{_≡_};
-ghost use mathlib.Core.Bool.{false};
-ghost use Prim.Native.Nat.{ℕ, _≤_, _<_};
-ghost use lib.ListN.{length, getD};
-ghost use Rattle.builder.specs.Letters.{uses, IsNext, IsTurn};
+ghost use Prim.Native.Nat.{_≤_, _<_};
+ghost use lib.ListN.{length};
+ghost use Rattle.theory.specs.Limit.{most-states};
+ghost use Rattle.builder.specs.Letters.{Gathers, IsNext, IsTurn};
 
-// 256 marks, one for each letter.
+// A set of letters: one mark for each byte value.
 pub struct Letters {
-    pub used: [bool; 256],
+    pub marks: [bool; 256],
 }
 
 pub enum Next {
@@ -25,31 +24,31 @@ pub enum Turn {
 // The letters of the entries of kind 2.
 pub fn gather(kind: &[u8], left: &[u16]) -> Letters
     requires { ⌜ length (now kind) ≤ length (now left) ⌝ }
-    ensures { λ r. ⌜ ((a : ℕ) → a < 256 → getD (r .used) a false ≡ uses (now (kind .entry)) (now (left .entry)) a) ⌝ }
+    ensures { λ r. ⌜ Gathers (now (kind .entry)) (now (left .entry)) r ⌝ }
 {
-    let mut used = [false; 256];
+    let mut marks = [false; 256];
     let mut i = 0;
     while i < kind.len() {
-        if kind[i] == 2 {
+        if kind[i] == theory::kind::LETTER {
             let l = left[i] as usize;
             if l < 256 {
-                used[l] = true;
+                marks[l] = true;
             }
         }
         i += 1;
     }
-    Letters { used }
+    Letters { marks }
 }
 
 impl Letters {
     // The smallest letter used above `after`.
     pub fn next(self, after: u8) -> Next
-        ensures { λ r. ⌜ IsNext (λ b. getD (self .used) b false) after r ⌝ }
+        ensures { λ r. ⌜ IsNext self after r ⌝ }
     {
-        let used = self.used;
+        let marks = self.marks;
         let mut a = (after as usize) + 1;
         while a < 256 {
-            if used[a] {
+            if marks[a] {
                 return Next::Letter { letter: a as u8 };
             }
             a += 1;
@@ -57,10 +56,10 @@ impl Letters {
         Next::Over
     }
 
-    // Behind state i by the letter a: the same state by the next letter, or the next state by the first.
+    // After state i by the letter a: the same state by the next letter, or the next state by the first.
     pub fn turn(self, first: u8, i: usize, a: u8, states: usize) -> Turn
-        requires { ⌜ i < 65535 ⌝ }
-        ensures { λ r. ⌜ IsTurn (λ b. getD (self .used) b false) first i a states r ⌝ }
+        requires { ⌜ i < most-states ⌝ }
+        ensures { λ r. ⌜ IsTurn self first i a states r ⌝ }
     {
         if let Next::Letter { letter } = self.next(a) {
             return Turn::To { state: i, letter };

@@ -10,11 +10,64 @@ use derive::walk::Place;
 use derive::walk::Stepped;
 ghost use mathlib.Core.Path.{_≡_};
 ghost use Rattle.theory.specs.Table.{table, tree, table-refusal};
+ghost use Rattle.theory.specs.Arcs.{arc-columns};
 ghost use Rattle.theory.specs.Build.{lent};
-ghost use Rattle.builder.specs.Progress.{Started, Knows, Reaches, Begins, Begun, root};
+ghost use Rattle.builder.specs.Progress.{Started, Knows, Reaches, Begins, Begun, Blank, root};
 
-// State 0: the literal empty word as row 0, the given expression behind it.
-pub fn start(
+// The automaton of the given table, in columns that are clear.
+pub fn make(
+    kind: &[u8],
+    left: &[u16],
+    right: &[u16],
+    rooms: Counts,
+    xkind: &mut [u8],
+    xleft: &mut [u16],
+    xright: &mut [u16],
+    expression: &mut [u16],
+    accepting: &mut [u8],
+    from: &mut [u16],
+    letter: &mut [u8],
+    to: &mut [u16],
+) -> Went
+    requires { ⌜ (table-refusal (table (now kind) (now left) (now right))) .number ≡ 0 ⌝ }
+    requires { ⌜ Blank rooms
+        (lent (table (now xkind) (now xleft) (now xright)) (now expression) (now accepting) (arc-columns (now from) (now letter) (now to))) ⌝ }
+    ensures { λ r.
+        ⌜ Reaches (tree (table (now (kind .entry)) (now (left .entry)) (now (right .entry)))) rooms r
+        (lent (table (now (xkind .exit)) (now (xleft .exit)) (now (xright .exit))) (now (expression .exit)) (now (accepting .exit))
+        (arc-columns (now (from .exit)) (now (letter .exit)) (now (to .exit)))) ⌝ }
+{
+    let Went::On { counts } = start(
+        kind,
+        left,
+        right,
+        rooms,
+        xkind,
+        xleft,
+        xright,
+        expression,
+        accepting,
+    ) else {
+        return Went::NoRoom;
+    };
+    let letters = super::letters::gather(kind, left);
+    fill(
+        letters,
+        rooms,
+        counts,
+        xkind,
+        xleft,
+        xright,
+        expression,
+        accepting,
+        from,
+        letter,
+        to,
+    )
+}
+
+// State 0: the literal empty word as row 0, the given expression after it.
+fn start(
     kind: &[u8],
     left: &[u16],
     right: &[u16],
@@ -38,7 +91,7 @@ pub fn start(
     if rooms.states == 0 {
         return Went::NoRoom;
     }
-    xkind[0] = 1;
+    xkind[0] = theory::kind::EMPTY_WORD;
     let root = kind.len() - 1;
     let Interned::At { row, used } = derive::rows::take_over(
         kind,
@@ -66,7 +119,7 @@ pub fn start(
 
 // 01: "States are handled in number order, letters from 1 to 255 for each, members in list order". By a letter that no entry has nothing
 // is met, so it is passed over.
-pub fn fill(
+fn fill(
     letters: Letters,
     rooms: Counts,
     counts: Counts,
@@ -79,9 +132,20 @@ pub fn fill(
     letter: &mut [u8],
     to: &mut [u16],
 ) -> Went
-    requires { ⌜ Started (lent (table (now xkind) (now xleft) (now xright)) (now expression) (now accepting) (now from) (now letter) (now to)) rooms counts ⌝ }
-    requires { ⌜ Knows (letters .used) (root (lent (table (now xkind) (now xleft) (now xright)) (now expression) (now accepting) (now from) (now letter) (now to))) ⌝ }
-    ensures { λ r. ⌜ Reaches (root (lent (table (now (xkind .entry)) (now (xleft .entry)) (now (xright .entry))) (now (expression .entry)) (now (accepting .entry)) (now (from .entry)) (now (letter .entry)) (now (to .entry)))) rooms r (lent (table (now (xkind .exit)) (now (xleft .exit)) (now (xright .exit))) (now (expression .exit)) (now (accepting .exit)) (now (from .exit)) (now (letter .exit)) (now (to .exit))) ⌝ }
+    requires { ⌜ Started
+        (lent (table (now xkind) (now xleft) (now xright)) (now expression) (now accepting) (arc-columns (now from) (now letter) (now to)))
+        rooms counts ⌝ }
+    requires { ⌜ Knows letters
+        (root
+        (lent (table (now xkind) (now xleft) (now xright)) (now expression) (now accepting) (arc-columns (now from) (now letter) (now to)))) ⌝ }
+    ensures { λ r.
+        ⌜ Reaches
+        (root
+        (lent (table (now (xkind .entry)) (now (xleft .entry)) (now (xright .entry))) (now (expression .entry)) (now (accepting .entry))
+        (arc-columns (now (from .entry)) (now (letter .entry)) (now (to .entry)))))
+        rooms r
+        (lent (table (now (xkind .exit)) (now (xleft .exit)) (now (xright .exit))) (now (expression .exit)) (now (accepting .exit))
+        (arc-columns (now (from .exit)) (now (letter .exit)) (now (to .exit)))) ⌝ }
 {
     let Next::Letter { letter: first } = letters.next(0) else {
         return Went::On { counts };

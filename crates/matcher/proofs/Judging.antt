@@ -41,7 +41,7 @@ module _ (h : Handed) (k : Work) (z : (matcher-refusal h k) .number ≡ 0) where
       record {
         some-state = good .some-state;
         few-states = good .few-states;
-        stored = record { from = long; letter = omega (arith, even .letter); to = omega (arith, even .to) };
+        spans = record { from = long; letter = omega (arith, even .letter); to = omega (arith, even .to) };
         from-below = good .from-below;
         to-below = good .to-below;
         enough = enough;

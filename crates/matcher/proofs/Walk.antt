@@ -37,7 +37,7 @@ module _ {n : ℕ} {a : Arcs} {k₀ k : Work} (h : Checked n a k₀) (same : Sam
   checked-kept = record {
     some-state = h .some-state;
     few-states = h .few-states;
-    stored = h .stored;
+    spans = h .spans;
     from-below = h .from-below;
     to-below = h .to-below;
     enough = record { current = rw (same .current) (h .enough .current); next = rw (same .next) (h .enough .next) };
@@ -47,7 +47,7 @@ module _ {n : ℕ} {a : Arcs} {k₀ k : Work} (h : Checked n a k₀) (same : Sam
   inside =
       let enough = checked-kept .enough in
       record {
-        stored = h .stored;
+        spans = h .spans;
         from-held = λ i l. let below = h .from-below i l in let room = enough .current in omega arith;
         to-held = λ i l. let below = h .to-below i l in let room = enough .next in omega arith;
       }

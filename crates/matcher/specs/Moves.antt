@@ -7,22 +7,16 @@ use mathlib.Core.Option.{Option, none, some}
 use lib.ListN.{length, getD}
 use Rattle.theory.specs.Limit.{most-states}
 use Rattle.theory.specs.Language.{Word}
-use Rattle.theory.specs.Arcs.{Arcs, start, reached, dead-at}
+use Rattle.theory.specs.Arcs.{Arcs, Spans, start, reached, dead-at}
 use Rattle.theory.specs.Record.{Handed, Work, LongEnough, verdict, live}
 use Rattle.theory.specs.Judge.{Judgement, given}
 use Rattle.sets.specs.Bits.{bit}
 use Rattle.matcher.specs.declared.moves.Walked.{Walked}
 use Rattle.matcher.specs.declared.moves.Walked.the-variants.{Whole, Dead}
 
--- The used arcs stand in the columns.
-pub record Stored (a : Arcs) : Type 0 where
-  pub from : a .count ≤ length (a .columns .from)
-  pub letter : a .count ≤ length (a .columns .letter)
-  pub to : a .count ≤ length (a .columns .to)
-
--- The words hold a bit for each end of the used arcs.
+-- The used arcs stand in the columns, and the words hold a bit for each of their ends.
 pub record Inside (a : Arcs) (k : Work) : Type 0 where
-  pub stored : Stored a
+  pub spans : Spans (a .columns) (a .count)
   pub from-held : (i : ℕ) → i < a .count → getD (a .columns .from) i 0 / 64 < length (k .current)
   pub to-held : (i : ℕ) → i < a .count → getD (a .columns .to) i 0 / 64 < length (k .next)
 
@@ -30,7 +24,7 @@ pub record Inside (a : Arcs) (k : Work) : Type 0 where
 pub record Checked (states : ℕ) (a : Arcs) (k : Work) : Type 0 where
   pub some-state : 0 < states
   pub few-states : states ≤ most-states
-  pub stored : Stored a
+  pub spans : Spans (a .columns) (a .count)
   pub from-below : (i : ℕ) → i < a .count → getD (a .columns .from) i 0 < states
   pub to-below : (i : ℕ) → i < a .count → getD (a .columns .to) i 0 < states
   pub enough : LongEnough k states

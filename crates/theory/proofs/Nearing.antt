@@ -42,8 +42,8 @@ module _ {e : Expression} {done : List Meeting} (s : Starts e done) where
       omega (arith, ap length (arcs-met e), length-map (meetings e) (to-arc (states e)), ap length (s .goes-on), length-append done (s .rest))
 
 -- One meeting more: the arc to it is needed.
-pub arcs-more : {e : Expression} (done : List Meeting) (m : Meeting) → Starts e (done ++ (m ∷ [])) → length done < length (arcs e)
-arcs-more done m s = let l = arcs-enough s in omega (arith, length-append done (m ∷ []))
+pub arcs-needed : {e : Expression} (done : List Meeting) (m : Meeting) → Starts e (done ++ (m ∷ [])) → length done < length (arcs e)
+arcs-needed done m s = let l = arcs-enough s in omega (arith, length-append done (m ∷ []))
 
 -- ---- Where the meetings begin
 

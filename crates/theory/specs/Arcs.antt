@@ -1,11 +1,11 @@
 -- 01, "Reading a record": "an arc count, the arc columns", whoever made them: the arcs that are used, and the states that a record reaches
 -- along them. The columns of the arcs as one table: refusal 1, all zero, and some arcs in them with zero beyond.
-use Prim.Native.Nat.{ℕ, zero, suc}
+use Prim.Native.Nat.{ℕ, zero, suc, _≤_}
 use mathlib.Core.Path.{_≡_}
 use mathlib.Core.Bool.{Bool, true, false, _&&_}
 use mathlib.Core.List.{List, [], _∷_, _++_, map}
 use mathlib.Core.Option.{Option, none, some}
-use lib.ListN.{length, getD}
+use lib.ListN.{length, getD, set}
 use lib.Dec.{eqb}
 use Rattle.theory.specs.Column.{zeros, filled}
 use Rattle.theory.specs.Below.{some-below}
@@ -39,6 +39,16 @@ even-arcs c = eqb (length (c .letter)) (length (c .from)) && eqb (length (c .to)
 pub record EvenArcs (c : ArcColumns) : Type 0 where
   pub letter : length (c .letter) ≡ length (c .from)
   pub to : length (c .to) ≡ length (c .from)
+
+-- Each column holds n numbers at least.
+pub record Spans (c : ArcColumns) (n : ℕ) : Type 0 where
+  pub from : n ≤ length (c .from)
+  pub letter : n ≤ length (c .letter)
+  pub to : n ≤ length (c .to)
+
+-- The columns with one arc stored at place n.
+abbrev pub with-arc : ArcColumns → ℕ → Arc → ArcColumns
+with-arc c n z = arc-columns (set (c .from) n (z .from)) (set (c .letter) n (z .letter)) (set (c .to) n (z .to))
 
 -- 01: "sets all lent output and work columns to zero".
 abbrev pub no-arcs : ArcColumns → ArcColumns

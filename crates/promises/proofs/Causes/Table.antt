@@ -44,8 +44,8 @@ module _ (n i : ℕ) (w : Row) where
   examined : Examined n i w (entry-fault n i w)
   unfolding entry-fault ordered
   examined =
-      go (ltb Kind.last (w .kind)) (fields-fit (meaning (w .kind)) (w .left) (w .right)) (all-below i (row-children w)) (eqb (w .kind) 0) (ltb 1 n) refl refl refl refl
-      refl
+      go (ltb Kind.last (w .kind)) (fields-fit (meaning (w .kind)) (w .left) (w .right)) (all-below i (row-children w)) (eqb (w .kind) 0) (ltb 1 n) refl
+      refl refl refl refl
     where
       go : (a b c d e : Bool) → ltb Kind.last (w .kind) ≡ a → fields-fit (meaning (w .kind)) (w .left) (w .right) ≡ b → all-below i (row-children w) ≡ c
           → eqb (w .kind) 0 ≡ d → ltb 1 n ≡ e → Examined n i w (ordered a b c d e)

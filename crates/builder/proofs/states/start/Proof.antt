@@ -15,31 +15,43 @@ use Rattle.builder.proofs.states.start.Tie as tie
 abbrev rowed : tie.Else2 → tie.Else1
 rowed c = c .before .before
 
+abbrev lent : tie.Else1 → tie.After-slice-known3
+lent c = c .before .before .before
+
+abbrev given : tie.After-slice-known3 → tie.After-shared-slice-known3
+given c = c .before .before .before
+
 abbrev entry : tie.Else2 → tie.Start
-entry c = rowed c .before .before .before .before .before .before .before .before .before
+entry c = given (lent (rowed c)) .before .before .before
+
+abbrev lending : tie.After-take-over → tie.After-take-over-arg
+lending c = c .before .before .before
 
 abbrev roomy : tie.After-take-over → tie.Else2
-roomy c = c .before .before .before .before
+roomy c = lending c .before
+
+abbrev rows-back : tie.After-slice-known8 → tie.After-xleft
+rows-back c = c .before .before .before
 
 abbrev taken : tie.After-slice-known8 → tie.After-take-over
-taken c = c .before .before .before .before .before .before
+taken c = rows-back c .before .before .before
+
+abbrev told : tie.After-empty-word-arg3 → tie.After-known-told
+told c = c .before .before .before
 
 abbrev named : tie.After-flag → tie.After-row
-named c = c .before .before .before .before .before .before
+named c = told (c .before .before) .before
 
 -- ---- The needs
 
-returns : tie.Need-returns
-returns c = no-rows _ _ (c .if1 .taken)
+no-row : tie.Need-returns
+no-row c = no-rows _ _ (c .if1 .taken)
 
-returns-2 : tie.Need-returns-2
-returns-2 c = no-states _ _ (c .if2 .taken)
+no-state : tie.Need-returns-2
+no-state c = no-states _ _ (c .if2 .taken)
 
-slice-write-xkind : tie.Need-slice-write-xkind
-slice-write-xkind c = search needs
-
-sub-root : tie.Need-sub-root
-sub-root c = omega (arith, given-some _ (entry c .pre .0))
+some-entry : tie.Need-sub-root
+some-entry c = omega (arith, given-some _ (entry c .pre .0))
 
 take-over-requires : tie.Need-take-over-requires
 take-over-requires c κs =
@@ -49,66 +61,27 @@ take-over-requires c κs =
     let left = rowed room .if1 .left in
     (given-sound _ fine _ (omega arith), (first-rows h (omega arith), (omega arith, simp length-set (h .rows-in), h .rows-small)))
 
-enum-known-row : tie.Need-enum-known-row
-enum-known-row c = search needs
-
-enum-told : tie.Need-enum-told
-enum-told c = search needs
-
-same-length : tie.Need-same-length
-same-length c = taken (c .before .before) .take-over .kept .1 .1 .1 .1 .0 ∙ simp length-set
-
-same-length-2 : tie.Need-same-length-2
-same-length-2 c = search needs
-
-same-length-3 : tie.Need-same-length-3
-same-length-3 c = search needs
-
-returns-3 : tie.Need-returns-3
-returns-3 c =
+no-rows-left : tie.Need-returns-3
+no-rows-left c =
     let take = taken (c .before .before) in
     let room = roomy take in
     let (fine, h) = entry room .pre in
     start-short h (omega (arith, rowed room .if1 .left)) _ _ (given-root _ fine) (took-not _ _ _ _ _ (c .enum-told .given .1) (take .take-over .ensures))
 
-cast-expression : tie.Need-cast-expression
-cast-expression c =
+row-fits : tie.Need-cast-expression
+row-fits c =
     let take = taken (c .before .before .before) in
     let k = took _ _ _ _ _ (c .before .row .given .1) (take .take-over .ensures) in
     record { fits = omega (arith, k .there, k .fits, entry (roomy take) .pre .1 .rows-small) }
 
-slice-write-expression : tie.Need-slice-write-expression
-slice-write-expression c = search needs
-
-empty-word-requires : tie.Need-empty-word-requires
-empty-word-requires c κs =
-    let row = c .before .before .before .before in
+row-there : tie.Need-empty-word-requires
+row-there c κs =
+    let row = told c .before in
     let k = took _ _ _ _ _ (row .row .given .1) (taken (row .before .before) .take-over .ensures) in
     row-sound (k .brought .grown .rows) (k .there)
 
-flag-requires : tie.Need-flag-requires
-flag-requires c κs = search needs
-
-slice-write-accepting : tie.Need-slice-write-accepting
-slice-write-accepting c = search needs
-
-same-length-4 : tie.Need-same-length-4
-same-length-4 c = taken (named c .before .before) .take-over .kept .1 .1 .1 .1 .0 ∙ simp length-set
-
-same-length-5 : tie.Need-same-length-5
-same-length-5 c = search needs
-
-same-length-6 : tie.Need-same-length-6
-same-length-6 c = search needs
-
-same-length-7 : tie.Need-same-length-7
-same-length-7 c = search needs
-
-same-length-8 : tie.Need-same-length-8
-same-length-8 c = search needs
-
-returns-4 : tie.Need-returns-4
-returns-4 c =
+state-stands : tie.Need-returns-4
+state-stands c =
     let row = named c in
     let take = taken (row .before .before) in
     let room = roomy take in
@@ -119,26 +92,8 @@ returns-4 c =
 pub start-spec : {M : Type 1} → statement M
 start-spec =
     tie.close
-    (tie.spec
-    returns
-    returns-2
-    slice-write-xkind
-    sub-root
-    take-over-requires
-    enum-known-row
-    enum-told
-    same-length
-    same-length-2
-    same-length-3
-    returns-3
-    cast-expression
-    slice-write-expression
-    empty-word-requires
-    flag-requires
-    slice-write-accepting
-    same-length-4
-    same-length-5
-    same-length-6
-    same-length-7
-    same-length-8
-    returns-4)
+    (tie.spec no-row no-state (λ c. search needs) some-entry take-over-requires (λ c. search needs) (λ c. search needs)
+    (λ c. taken (c .before .before) .take-over .kept .1 .1 .1 .1 .0 ∙ simp length-set) (λ c. search needs) (λ c. search needs) no-rows-left row-fits
+    (λ c. search needs) row-there (λ c κs. search needs) (λ c. search needs)
+    (λ c. taken (named c .before .before) .take-over .kept .1 .1 .1 .1 .0 ∙ simp length-set) (λ c. search needs) (λ c. search needs) (λ c. search needs)
+    (λ c. search needs) state-stands)

@@ -44,10 +44,10 @@ loop-holds : tie.Need-loop-holds Inv-loop μ-loop
 loop-holds c = (omega arith, spread-none)
 
 letter-read : tie.Need-shared-slice-read-if1 Inv-loop μ-loop
-letter-read c = omega (arith, entry (at-letter c) .pre .stored .letter)
+letter-read c = omega (arith, entry (at-letter c) .pre .spans .letter)
 
 from-read : tie.Need-shared-slice-read-marked Inv-loop μ-loop
-from-read c = omega (arith, entry (at-from c) .pre .stored .from)
+from-read c = omega (arith, entry (at-from c) .pre .spans .from)
 
 from-cast : tie.Need-cast-marked Inv-loop μ-loop
 from-cast c = omega (arith, c .shared-slice-known6 .given (at-from c .loop .i))
@@ -56,7 +56,7 @@ marked-requires : tie.Need-marked-requires Inv-loop μ-loop
 marked-requires c κs = entry (at-from c) .pre .from-held (at-from c .loop .i) (omega arith)
 
 to-read : tie.Need-shared-slice-read-mark Inv-loop μ-loop
-to-read c = omega (arith, entry (at-to c) .pre .stored .to)
+to-read c = omega (arith, entry (at-to c) .pre .spans .to)
 
 to-cast : tie.Need-cast-mark Inv-loop μ-loop
 to-cast c = omega (arith, c .shared-slice-known7 .given (at-to c .loop .i))

@@ -2,32 +2,22 @@
 use borrow.Author.Needs.{needs}
 use mathlib.Core.Path.{refl}
 use mathlib.Core.Logic.{inl, inr}
-use Rattle.builder.proofs.Using.{next-as}
+use Rattle.builder.proofs.Told.{next-as}
 use Rattle.builder.proofs.letters.Letters.turn.Statement.{statement}
 use Rattle.builder.proofs.letters.Letters.turn.Tie as tie
 
-next-requires : tie.Need-next-requires
-next-requires c κs = search needs
+abbrev looked : tie.After-enum-told → tie.After-next
+looked c = c .before .before
 
-enum-known-letter : tie.Need-enum-known-letter
-enum-known-letter c = search needs
+same-state : tie.Need-returns
+same-state c = let told = c .before in inl (refl, next-as _ _ (told .letter .given .1) (told .before .before .next .ensures))
 
-returns : tie.Need-returns
-returns c = inl (refl, next-as _ _ (c .before .letter .given .1) (c .before .before .before .next .ensures))
+next-state : tie.Need-returns-2
+next-state c = let told = c .before in inr (refl, c .if1 .taken, refl, next-as _ _ (told .enum-told .given .1) (looked told .next .ensures))
 
-enum-told : tie.Need-enum-told
-enum-told c = search needs
-
-add-state : tie.Need-add-state
-add-state c = search needs
-
-returns-2 : tie.Need-returns-2
-returns-2 c = inr (refl, c .if1 .taken, refl, next-as _ _ (c .before .enum-told .given .1) (c .before .before .before .next .ensures))
-
-returns-3 : tie.Need-returns-3
-returns-3 c = (c .if1 .left, next-as _ _ (c .before .enum-told .given .1) (c .before .before .before .next .ensures))
+done : tie.Need-returns-3
+done c = let told = c .before in (c .if1 .left, next-as _ _ (told .enum-told .given .1) (looked told .next .ensures))
 
 pub turn-spec : {M : Type 1} → statement M
 turn-spec =
-    tie.close
-    (tie.spec next-requires enum-known-letter returns enum-told add-state returns-2 returns-3)
+    tie.close (tie.spec (λ c κs. search needs) (λ c. search needs) same-state (λ c. search needs) (λ c. search needs) next-state done)
