@@ -5,8 +5,7 @@ use native.Mathlib.Omega.{arith}
 use mathlib.Core.Path.{_≡_, refl, sym, ap, _∙_, subst}
 use mathlib.Core.List.{List, [], _∷_, _++_, append-nil, append-assoc}
 use lib.ListN.{length, getD, take, set, length-set, length-append}
-use lib.Seq.{length-take-le, take-all, take-suc, take-suc-set}
-use Rattle.io.specs.Counts.{Counts}
+use lib.Seq.{take-all, take-suc, take-suc-set}
 use Rattle.io.specs.Digits.{Fewest}
 use Rattle.io.specs.Digits.{digits as Digits·digits}
 use Rattle.theory.specs.Refusal.{Refusal}
@@ -77,10 +76,6 @@ numbered {n} {after} {text} {before} {between} {used} {at} e r p = record {
         let t = ap length e in
         let m = length-append (decimal n) (after ∷ []) in
         omega arith
-
--- What lending the beginning of a block asks.
-pub counts-of : (n : ℕ) (block : List ℕ) → n ≤ length block → Counts n block
-counts-of n block l = (l, sym (length-take-le n block l))
 
 -- ---- A refusal's line
 

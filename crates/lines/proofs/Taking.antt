@@ -13,13 +13,11 @@ use lib.Dec.{eqb}
 use borrow.Author.Tests.{eqb-true, eqb-false}
 use Rattle.theory.specs.Lines.{newline}
 use Rattle.lines.specs.declared.input.Input.{Input}
-use Rattle.lines.specs.declared.input.Next.{Next}
 use Rattle.lines.specs.declared.input.Line.{Line}
 use Rattle.lines.specs.declared.input.Line.the-variants.{None, Ended, Full, Failed}
-use Rattle.lines.specs.declared.input.Passed.{Passed}
 use Rattle.lines.specs.declared.input.Passed.the-variants.{To}
 use Rattle.lines.specs.declared.input.Passed.the-variants as rest
-use Rattle.lines.specs.Input.{Inside, untaken, Taken, of-block, of-reads, All-taken, Nexts, Unbroken, Holds, last, Took, Passes, most-bytes}
+use Rattle.lines.specs.Input.{Inside, untaken, Taken, of-block, of-reads, All-taken, Unbroken, last, Took, Passes, most-bytes}
 
 -- ---- Parts of a block
 

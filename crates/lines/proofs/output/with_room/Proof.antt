@@ -8,7 +8,6 @@ use mathlib.Core.Bool.{false≢true}
 use lib.ListN.{length}
 use lib.Seq.{length-take-le}
 use Rattle.theory.proofs.Tests.{or-left, or-right}
-use Rattle.lines.specs.declared.output.Written.{Written}
 use Rattle.lines.specs.Output.{line-room, Wrote}
 use Rattle.lines.proofs.output.with_room.Statement.{statement}
 use Rattle.lines.proofs.output.with_room.Tie as tie
