@@ -5,8 +5,7 @@ use native.Mathlib.Omega.{arith}
 use mathlib.Core.Path.{_≡_, refl, sym, ap, _∙_, subst}
 use mathlib.Core.List.{List, [], _∷_, _++_, append-nil, append-assoc}
 use lib.ListN.{length, getD, take, set, length-set, length-append}
-use lib.Seq.{length-take-le, take-all, take-suc, take-suc-set}
-use Rattle.io.specs.Counts.{Counts}
+use lib.Seq.{take-all, take-suc, take-suc-set}
 use Rattle.io.specs.Digits.{Fewest}
 use Rattle.io.specs.Digits.{digits as Digits·digits}
 use Rattle.theory.specs.Refusal.{Refusal}
@@ -14,12 +13,12 @@ use Rattle.theory.specs.Lines.{decimal, number-and, space, newline, refusal-lin
 use Rattle.lines.specs.Output.{Put, line-room}
 use Rattle.lines.proofs.Decimal.{decimal-digits, decimal-short}
 
+pub put-nothing : {block : List ℕ} {used : ℕ} → Put [] block used block used
+put-nothing {block} {used} = record { count = sym (add-zero used); stands = sym (append-nil (take used block)); same-length = refl }
+
+-- The same, as a loop begins.
 pub put-none : (block : List ℕ) (used : ℕ) → Put [] block used block (used + 0)
-put-none block used = record {
-  count = refl;
-  stands = ap (λ (n : ℕ). take n block) (add-zero used) ∙ sym (append-nil (take used block));
-  same-length = refl;
-}
+put-none block used = rw add-zero put-nothing
 
 one-more : (n : ℕ) → n + 1 ≡ suc n
 one-more n = omega arith
@@ -77,10 +76,6 @@ numbered {n} {after} {text} {before} {between} {used} {at} e r p = record {
         let t = ap length e in
         let m = length-append (decimal n) (after ∷ []) in
         omega arith
-
--- What lending the beginning of a block asks.
-pub counts-of : (n : ℕ) (block : List ℕ) → n ≤ length block → Counts n block
-counts-of n block l = (l, sym (length-take-le n block l))
 
 -- ---- A refusal's line
 

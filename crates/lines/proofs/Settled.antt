@@ -11,7 +11,7 @@ use Rattle.theory.specs.Lines.{newline}
 use Rattle.lines.specs.declared.input.Input.{Input}
 use Rattle.lines.specs.declared.input.Line.{Line}
 use Rattle.lines.specs.declared.input.Line.the-variants.{None, Ended, Full, Failed}
-use Rattle.lines.specs.Input.{Inside, untaken, Taken, of-block, of-reads, All-taken, Unbroken, Took}
+use Rattle.lines.specs.Input.{Inside, untaken, Taken, of-block, of-reads, Unbroken, Took}
 use Rattle.lines.proofs.Taking.{slice-join}
 
 -- Up to its first newline a text is one list.

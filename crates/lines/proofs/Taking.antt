@@ -13,13 +13,11 @@ use lib.Dec.{eqb}
 use borrow.Author.Tests.{eqb-true, eqb-false}
 use Rattle.theory.specs.Lines.{newline}
 use Rattle.lines.specs.declared.input.Input.{Input}
-use Rattle.lines.specs.declared.input.Next.{Next}
 use Rattle.lines.specs.declared.input.Line.{Line}
 use Rattle.lines.specs.declared.input.Line.the-variants.{None, Ended, Full, Failed}
-use Rattle.lines.specs.declared.input.Passed.{Passed}
 use Rattle.lines.specs.declared.input.Passed.the-variants.{To}
 use Rattle.lines.specs.declared.input.Passed.the-variants as rest
-use Rattle.lines.specs.Input.{Inside, untaken, Taken, of-block, of-reads, All-taken, Nexts, Unbroken, Holds, last, Took, Passes, most-bytes}
+use Rattle.lines.specs.Input.{Inside, untaken, Taken, of-block, of-reads, All-taken, Unbroken, last, Took, Passes, most-bytes}
 
 -- ---- Parts of a block
 
@@ -30,7 +28,7 @@ slice-join l f m t p q r =
     ∙ sym (drop-append-le f (take m (take t l)) (drop m (take t l)) (let k = length-take-le m (take t l) (omega arith) in omega arith))
     ∙ ap (drop f) (take-append-drop m (take t l))
 
-slice-one : (l : List ℕ) (i : ℕ) → i < length l → slice i (i + 1) l ≡ getD l i 0 ∷ []
+pub slice-one : (l : List ℕ) (i : ℕ) → i < length l → slice i (i + 1) l ≡ getD l i 0 ∷ []
 slice-one l i h =
     slice-cons i (i + 1) l 0 (omega arith) (omega arith) ∙ ap (λ (n : ℕ). getD l i 0 ∷ slice n (i + 1) l) (sym (add-one i))
     ∙ ap (λ (x : List ℕ). getD l i 0 ∷ x) (slice-empty (i + 1) l)

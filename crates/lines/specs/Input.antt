@@ -2,7 +2,7 @@
 -- after them. What a read puts there is libc's to say.
 use Prim.Native.Nat.{ℕ, _≤_, _<_}
 use mathlib.Core.Path.{_≡_}
-use mathlib.Core.Bool.{cond}
+use mathlib.Core.Bool.{Bool, true, false, cond}
 use mathlib.Core.Logic.{_⊎_}
 use mathlib.Core.List.{List, [], _∷_, _++_, List·Memᴰ}
 use lib.ListN.{length, take}
@@ -44,6 +44,11 @@ Nexts block input next.Failed block′ = input .at ≡ input .end
 
 abbrev pub Unbroken : List ℕ → Type 0
 Unbroken bytes = List·Memᴰ newline bytes → ⊥
+
+-- No newline stands among the bytes that are not taken yet, or one does.
+abbrev pub Waits : List ℕ → Input → Bool → Type 0
+Waits block input true = Unbroken (untaken block input)
+Waits block input false = List·Memᴰ newline (untaken block input)
 
 -- 01: "A last line without newline counts if it has a byte". The line stands in the column; its newline is taken and not stored.
 abbrev pub Holds : List ℕ → Input → Line → List ℕ → List ℕ → Type 0

@@ -1,7 +1,7 @@
 -- What is put into a block of output, and what is handed on to be written.
 use Prim.Native.Nat.{ℕ, _+_, _≤_}
 use mathlib.Core.Path.{_≡_}
-use mathlib.Core.Bool.{Bool, false}
+use mathlib.Core.Bool.{Bool, true}
 use mathlib.Core.List.{List, _++_}
 use lib.ListN.{length, take}
 use Rattle.lines.specs.declared.output.Written.{Written}
@@ -24,8 +24,7 @@ abbrev pub Wrote : ℕ → Written → Type 0
 Wrote n (written.All count) = count ≡ n
 Wrote n written.Failed = Unit {0}
 
--- A line fits after what is used and nobody waits for it; or all that was used is written.
-abbrev pub Cleared : (size used : ℕ) → Bool → Room → Type 0
-Cleared size used waits (room.Left used′) = (used′ ≡ used) × (waits ≡ false) × (used + line-room ≤ size)
-Cleared size used waits (room.Cleared count) = count ≡ used
-Cleared size used waits room.Failed = Unit {0}
+-- A line fits after what is used then. What was used before is written or used still, and none of it is used where the caller waits.
+abbrev pub Roomy : (size used : ℕ) → Bool → Room → Type 0
+Roomy size used waits (room.For used′ count) = (used′ + line-room ≤ size) × (count + used′ ≡ used) × (waits ≡ true → used′ ≡ 0)
+Roomy size used waits room.Failed = Unit {0}

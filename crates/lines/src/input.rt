@@ -1,7 +1,7 @@
 // Lines of standard input. 01: they end at a newline; "A last line without newline counts if it has a byte".
 
 ghost use mathlib.Core.Path.{_≡_};
-ghost use Rattle.lines.specs.Input.{Inside, Nexts, last, Took, Passes};
+ghost use Rattle.lines.specs.Input.{Inside, Nexts, Waits, last, Took, Passes};
 
 // The bytes of the lent block from `at` to `end` are read and not yet taken. A block of one byte takes nothing after a newline.
 pub struct Input {
@@ -62,6 +62,22 @@ fn take_byte(block: &mut [u8], input: Input) -> Next
         byte: block[0],
         input: Input { at: 1, end },
     }
+}
+
+// Whether the next line needs a read: no newline stands among the bytes that are not taken yet.
+pub fn waits(block: &[u8], input: Input) -> bool
+    requires { ⌜ Inside input (now block) ⌝ }
+    ensures { λ r. ⌜ Waits (now (block .entry)) input r ⌝ }
+{
+    let mut at = input.at;
+    let end = input.end;
+    while at < end {
+        if block[at] == b'\n' {
+            return false;
+        }
+        at += 1;
+    }
+    true
 }
 
 // The next line, as far as the column holds it; its newline is taken and not stored.

@@ -5,7 +5,7 @@ ghost use Prim.Native.Nat.{_+_, _≤_};
 ghost use lib.ListN.{length};
 ghost use Rattle.theory.specs.Refusal.{refusal};
 ghost use Rattle.theory.specs.Lines.{number-and, refusal-line};
-ghost use Rattle.lines.specs.Output.{Put, line-room, Wrote, Cleared};
+ghost use Rattle.lines.specs.Output.{Put, line-room, Wrote, Roomy};
 
 // No line of the records program and no refusal is longer.
 pub const LINE: usize = 64;
@@ -64,24 +64,25 @@ pub fn write(bytes: &[u8]) -> Written
 }
 
 pub enum Room {
-    Left { used: usize },
-    // So many bytes were written, and none is used now.
-    Cleared { count: usize },
+    For { used: usize, written: usize },
     Failed,
 }
 
-// Writes the block out where a line might not fit after what it holds, or where the caller would wait.
+// Writes the block out where a line might not fit after what it holds, or where the caller would wait. How much of it is used then.
 pub fn with_room(block: &[u8], used: usize, waits: bool) -> Room
-    requires { ⌜ used ≤ length (now block) ⌝ }
-    ensures { λ r. ⌜ Cleared (length (now (block .entry))) used waits r ⌝ }
+    requires { ⌜ (used ≤ length (now block)) × (line-room ≤ length (now block)) ⌝ }
+    ensures { λ r. ⌜ Roomy (length (now (block .entry))) used waits r ⌝ }
 {
     if waits | (block.len() - used < LINE) {
         match write(&block[..used]) {
-            Written::All { count } => Room::Cleared { count },
+            Written::All { count } => Room::For {
+                used: 0,
+                written: count,
+            },
             Written::Failed => Room::Failed,
         }
     } else {
-        Room::Left { used }
+        Room::For { used, written: 0 }
     }
 }
 

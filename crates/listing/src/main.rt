@@ -1,34 +1,44 @@
 // 01, "Two programs": reads one expression line and prints its automaton in the AT&T/OpenFst text format.
 
-use builder::Building;
 use lines::input::Input;
 use lines::input::Line;
 use lines::output;
-ghost use Prim.Native.Nat.{_+_, _≤_};
+use lines::output::Written;
+use site::Site;
+use theory::limit;
+ghost use Prim.Native.Nat.{_+_, _*_, _≤_, _<_};
 ghost use lib.ListN.{length};
+ghost use Rattle.theory.specs.Arcs.{arc-columns};
 ghost use Rattle.theory.specs.Lines.{arc-line};
-ghost use Rattle.io.specs.Counts.{Counts};
+ghost use Rattle.site.specs.Rooms;
 ghost use Rattle.lines.specs.Output.{Put};
+ghost use Rattle.listing.specs.Listing.{arc-bytes, state-bytes, listing-bytes, Narrow, arc-lines, state-text, state-lines, Lists, Prints};
+
+// Any listing of the program's rooms: 12 bytes for an arc, 4 for a state.
+const LISTING: usize = site::ARCS * 12 + site::STATES * 4;
 
 // 01: "arcs in table order as `from to label`".
 fn arc(block: &mut [u8], used: usize, from: u16, to: u16, letter: u8) -> usize
-    requires { ⌜ used + 64 ≤ length (now block) ⌝ }
+    requires { ⌜ (used + arc-bytes ≤ length (now block)) × (from < Rooms.states) × (to < Rooms.states) ⌝ }
     ensures { λ r. ⌜ Put (arc-line from to letter) (now (block .entry)) used (now (block .exit)) r ⌝ }
-    ensures { λ r. ⌜ r ≤ used + 64 ⌝ }
+    ensures { λ r. ⌜ r ≤ used + arc-bytes ⌝ }
 {
-    let from_behind = output::number(block, used, from as usize, b' ');
-    let to_behind = output::number(block, from_behind, to as usize, b' ');
-    output::number(block, to_behind, letter as usize, b'\n')
+    let from_put = output::number(block, used, from as usize, b' ');
+    let to_put = output::number(block, from_put, to as usize, b' ');
+    output::number(block, to_put, letter as usize, b'\n')
 }
 
-fn arcs(block: &mut [u8], count: usize, from: &[u16], to: &[u16], letter: &[u8]) -> usize
-    requires { ⌜ (64 ≤ length (now block)) × (count ≤ length (now from)) × (count ≤ length (now to)) × (count ≤ length (now letter)) ⌝ }
-    ensures { λ r. ⌜ r ≤ length (now (block .entry)) ⌝ }
+fn arcs(block: &mut [u8], count: usize, from: &[u16], letter: &[u8], to: &[u16]) -> usize
+    requires { ⌜ (count * arc-bytes ≤ length (now block)) × (count ≤ length (now from)) × (count ≤ length (now letter)) × (count ≤ length (now to)) ⌝ }
+    requires { ⌜ Narrow (arc-columns (now from) (now letter) (now to)) count ⌝ }
+    ensures { λ r.
+        ⌜ Put (arc-lines (arc-columns (now (from .entry)) (now (letter .entry)) (now (to .entry))) count) (now (block .entry)) 0
+        (now (block .exit)) r ⌝ }
+    ensures { λ r. ⌜ r ≤ count * arc-bytes ⌝ }
 {
     let mut used = 0;
     let mut i = 0;
     while i < count {
-        used = output::with_room(block, used, false);
         used = arc(block, used, from[i], to[i], letter[i]);
         i += 1;
     }
@@ -37,64 +47,78 @@ fn arcs(block: &mut [u8], count: usize, from: &[u16], to: &[u16], letter: &[u8])
 
 // 01: "then each accepting state on its own line, ascending".
 fn states(block: &mut [u8], used: usize, count: usize, accepting: &[u8]) -> usize
-    requires { ⌜ (64 ≤ length (now block)) × (used ≤ length (now block)) × (count ≤ length (now accepting)) ⌝ }
-    ensures { λ r. ⌜ r ≤ length (now (block .entry)) ⌝ }
+    requires { ⌜ (used + count * state-bytes ≤ length (now block)) × (count ≤ length (now accepting)) × (count ≤ Rooms.states) ⌝ }
+    ensures { λ r. ⌜ Put (state-lines (now (accepting .entry)) count) (now (block .entry)) used (now (block .exit)) r ⌝ }
+    ensures { λ r. ⌜ r ≤ used + count * state-bytes ⌝ }
 {
-    let mut used = used;
+    let mut at = used;
     let mut i = 0;
     while i < count {
-        used = state(block, used, i, accepting[i]);
+        at = state(block, at, i, accepting[i]);
         i += 1;
+    }
+    at
+}
+
+fn state(block: &mut [u8], used: usize, state: usize, accepting: u8) -> usize
+    requires { ⌜ (used + state-bytes ≤ length (now block)) × (state < Rooms.states) ⌝ }
+    ensures { λ r. ⌜ Put (state-text accepting state) (now (block .entry)) used (now (block .exit)) r ⌝ }
+    ensures { λ r. ⌜ r ≤ used + state-bytes ⌝ }
+{
+    if accepting == 1 {
+        return output::number(block, used, state, b'\n');
     }
     used
 }
 
-fn state(block: &mut [u8], used: usize, state: usize, accepting: u8) -> usize
-    requires { ⌜ (64 ≤ length (now block)) × (used ≤ length (now block)) ⌝ }
-    ensures { λ r. ⌜ r ≤ length (now (block .entry)) ⌝ }
-{
-    if accepting == 0 {
-        return used;
-    }
-    let used = output::with_room(block, used, false);
-    output::number(block, used, state, b'\n')
-}
-
+// From the text's bytes to the answer's bytes.
 fn list(text: &[u8], block: &mut [u8]) -> usize
-    requires { ⌜ 64 ≤ length (now block) ⌝ }
-    ensures { λ r. ⌜ Counts r (now (block .exit)) ⌝ }
+    requires { ⌜ listing-bytes ≤ length (now block) ⌝ }
+    ensures { λ r. ⌜ Lists (now (text .entry)) (now (block .entry)) (now (block .exit)) r ⌝ }
 {
-    let mut accepting = [0u8; 512];
-    let mut from = [0u16; 4096];
-    let mut letter = [0u8; 4096];
-    let mut to = [0u16; 4096];
+    let mut accepting = [0u8; site::STATES];
+    let mut from = [0u16; site::ARCS];
+    let mut letter = [0u8; site::ARCS];
+    let mut to = [0u16; site::ARCS];
     match site::automaton(text, &mut accepting, &mut from, &mut letter, &mut to) {
-        Building::Refused { number, place } => output::refused(block, 0, number, place),
-        Building::Built {
+        Site::Refused { number, place } => output::refused(block, 0, number, place),
+        Site::Built {
+            entries: _,
+            letters: _,
             states: state_count,
             expressions: _,
             arcs: arc_count,
         } => {
-            let used = arcs(block, arc_count, &from, &to, &letter);
+            let used = arcs(block, arc_count, &from, &letter, &to);
             states(block, used, state_count, &accepting)
         }
     }
 }
 
-fn print(text: &[u8]) {
-    let mut block = [0u8; 4096];
+// The answer to a text, written out whole.
+fn print(text: &[u8]) -> Written
+    ensures { λ r. ⌜ Prints (now (text .entry)) r ⌝ }
+{
+    let mut block = [0u8; LISTING];
     let used = list(text, &mut block);
-    io::write_all(1, &block[..used]);
+    output::write(&block[..used])
+}
+
+fn show(text: &[u8]) {
+    if let Written::Failed = print(text) {
+        output::tell_write_failed();
+    }
 }
 
 fn main() {
     // One byte at a time. 01: "nothing after it read".
     let mut taken = [0u8; 1];
     // A byte more than a text may have: of a longer line the reader sees that it is longer.
-    let mut text = [0u8; 4097];
+    let mut text = [0u8; limit::TEXT + 1];
     match lines::input::take_line(&mut taken, Input::start(), &mut text) {
-        Line::None => print(b""),
-        Line::Ended { length, input: _ } => print(&text[..length]),
-        Line::Full { input: _ } => print(&text),
+        Line::None => show(b""),
+        Line::Ended { length, input: _ } => show(&text[..length]),
+        Line::Full { input: _ } => show(&text),
+        Line::Failed => output::tell_read_failed(),
     }
 }

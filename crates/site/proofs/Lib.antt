@@ -1,1 +1,5 @@
+pub mod Fitting
 pub mod Making
+pub mod Judging
+pub mod Counting
+pub mod Telling

@@ -1,50 +1,100 @@
 -- The promise of `site::automaton`: the answer and every lent column at exit, for every text and all lent columns.
 use Prim.Native.Nat.{ℕ}
 use mathlib.Core.Path.{_≡_}
+use mathlib.Core.Bool.{Bool, true, false, cond, _&&_}
 use mathlib.Core.List.{List}
-use Rattle.theory.specs.Refusal.{Refusal}
-use Rattle.theory.specs.Column.{zeros}
-use Rattle.theory.specs.Table.{Table, table, columns}
-use Rattle.theory.specs.Grammar.{Text, Reading, read, refused, rows}
+use lib.ListN.{length}
+use lib.Dec.{eqb}
+use Rattle.theory.specs.Expression.{Expression, entries, letters}
+use Rattle.theory.specs.Refusal.{Refusal, refusal, success, columns-differ, room-small}
+use Rattle.theory.specs.Column.{zeros, filled}
+use Rattle.theory.specs.Automaton.{states, accepting, expressions, arcs}
+use Rattle.theory.specs.Arcs.{ArcColumns, arc-columns, even-arcs, no-arcs, filled-arcs}
+use Rattle.theory.specs.Table.{Table, table}
+use Rattle.theory.specs.Grammar.{Text, Reading, read, refused}
 use Rattle.theory.specs.Read.{Due}
-use Rattle.theory.specs.Build.{Lent, lent, Counts, Built, Cleared}
+use Rattle.theory.specs.Build.{Lent, lent, over-room}
+use Rattle.site.specs.Rooms
 
--- 01, "Two programs": "rooms of 512 entries, 1,024 expressions, 512 states".
-abbrev pub entry-columns : Table
-entry-columns = table (zeros 512) (zeros 512) (zeros 512)
+-- ---- What is lent
 
-abbrev pub expression-columns : Table
-expression-columns = table (zeros 1024) (zeros 1024) (zeros 1024)
-
-abbrev pub state-column : List ℕ
-state-column = zeros 512
-
--- The columns that a program looks at.
+-- A program lends what it looks at of an automaton.
 pub record Shown : Type 0 where
   pub accepting : List ℕ
-  pub from : List ℕ
-  pub letter : List ℕ
-  pub to : List ℕ
+  pub arcs : ArcColumns
 
 abbrev pub shown : List ℕ → List ℕ → List ℕ → List ℕ → Shown
-shown acc f l t = record { accepting = acc; from = f; letter = l; to = t }
+shown acc f l t = record { accepting = acc; arcs = arc-columns f l t }
 
-abbrev pub beside : Table → List ℕ → Shown → Lent
-beside rows expression s = lent rows expression (s .accepting) (s .from) (s .letter) (s .to)
+-- Entries, expressions and what the states name are looked at by no program: they have columns of the rooms' lengths.
+abbrev pub entry-columns : Table
+entry-columns = table (zeros Rooms.entries) (zeros Rooms.entries) (zeros Rooms.entries)
 
--- 01: "A refusal returns its number and place and zero in every count".
-abbrev pub none-built : Refusal → Counts
-none-built r = record { refusal = r; states = 0; expressions = 0; arcs = 0 }
+abbrev pub beside : Shown → Lent
+beside s =
+    lent (table (zeros Rooms.expressions) (zeros Rooms.expressions) (zeros Rooms.expressions)) (zeros Rooms.states) (s .accepting) (s .arcs)
 
--- What is read is built; what is not read is refused as the reader refuses it.
-abbrev pub Makes : Reading → Lent → Counts → Lent → Type 0
-Makes (read e) c answer c′ = Built (columns (rows 0 e)) c answer c′
-Makes (refused r) c answer c′ = (answer ≡ none-built r) × Cleared c c′
+-- ---- The answer
 
-pub record Made (text : Text) (s : Shown) (answer : Counts) (s′ : Shown) : Type 0 where
+-- 01: "Success is 0 with place 0. A refusal returns its number and place and zero in every count".
+pub record Answer : Type 0 where
+  pub refusal : Refusal
+  pub entries : ℕ
+  pub letters : ℕ
+  pub states : ℕ
+  pub expressions : ℕ
+  pub arcs : ℕ
+
+abbrev pub withheld : Refusal → Answer
+withheld r = record { refusal = r; entries = 0; letters = 0; states = 0; expressions = 0; arcs = 0 }
+
+unfoldable pub needs : Expression → Answer
+unfolding entries letters states expressions arcs
+needs e = record {
+  refusal = success;
+  entries = entries e;
+  letters = length (letters e);
+  states = length (states e);
+  expressions = length (expressions e);
+  arcs = length (arcs e);
+}
+
+-- What is refused of an expression that was read: 1 where the accepting column is not as long as the room for states or the arc columns
+-- differ, and 9 where a need exceeds its room.
+unfoldable pub site-refusal : Expression → Shown → Refusal
+unfolding even-arcs over-room
+site-refusal e s =
+    cond (eqb (length (s .accepting)) Rooms.states && even-arcs (s .arcs)) (cond (over-room e (beside s)) (refusal room-small 0) success)
+    (refusal columns-differ 0)
+
+-- By a refusal's number: a where there is none, and b where there is one.
+abbrev pub unless-refused : {A : Type 0} → Refusal → A → A → A
+unless-refused r a b = elim (eqb (r .number) 0) [ true ↦ a | false ↦ b ]
+
+unfoldable pub answered : Reading → Shown → Answer
+unfolding site-refusal needs
+answered (read e) s = unless-refused (site-refusal e s) (needs e) (withheld (site-refusal e s))
+answered (refused r) s = withheld r
+
+-- ---- The columns at exit
+
+-- 01: "sets all lent output and work columns to zero".
+abbrev pub blank : Shown → Shown
+blank s = record { accepting = zeros (length (s .accepting)); arcs = no-arcs (s .arcs) }
+
+-- 01: "Beyond the counts all columns hold zero."
+unfoldable pub holding : Expression → Shown → Shown
+unfolding accepting arcs
+holding e s = record { accepting = filled (length (s .accepting)) (accepting e); arcs = filled-arcs (s .arcs) (arcs e) }
+
+unfoldable pub left-in : Reading → Shown → Shown
+unfolding site-refusal holding
+left-in (read e) s = unless-refused (site-refusal e s) (holding e s) (blank s)
+left-in (refused r) s = blank s
+
+-- What `automaton` owes: what is not read is refused as the reader refuses it, and what is read is built.
+pub record Made (text : Text) (s : Shown) (answer : Answer) (s′ : Shown) : Type 0 where
   pub reading : Reading
   pub due : Due text entry-columns reading
-  -- what stands in the columns that no program looks at
-  pub rows : Table
-  pub expression : List ℕ
-  pub makes : Makes reading (beside expression-columns state-column s) answer (beside rows expression s′)
+  pub answers : answer ≡ answered reading s
+  pub leaves : s′ ≡ left-in reading s

@@ -33,6 +33,7 @@ pub mod Expressed
 pub mod Answers
 pub mod BuilderRefusal
 pub mod Filled
+pub mod Handing
 pub mod Needs
 pub mod Accepts
 pub mod MatcherRefusal

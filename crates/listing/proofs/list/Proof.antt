@@ -1,106 +1,95 @@
+-- `list` puts the listing of the text's expression into the block, or the refusal's line.
 use borrow.Author.Needs.{needs}
 use native.Mathlib.Omega.{arith}
-use Rattle.site.proofs.Making.{built-within}
-use Rattle.lines.proofs.Putting.{counts-of}
+use mathlib.Core.Path.{_≡_, refl, subst}
+use Rattle.theory.specs.Grammar.{Text}
+use Rattle.site.specs.declared.Site.{Site}
+use Rattle.site.specs.Site.{Shown, Made}
+use Rattle.site.specs.Values.{values}
+use Rattle.site.proofs.Judging.{built-from}
+use Rattle.listing.proofs.Printing.{lists-refusal, lists-automaton, few-states, few-arcs, narrow}
 use Rattle.listing.proofs.list.Statement.{statement}
 use Rattle.listing.proofs.list.Tie as tie
 
--- ---- The places behind the match on what was built: the call of `automaton`, the entry
+-- What the site's enum says.
+made-as : {text : Text} {s s′ : Shown} {r r′ : Site} → r ≡ r′ → Made text s (values r) s′ → Made text s (values r′) s′
+made-as {text} {s} {s′} e h = subst (λ (r : Site). Made text s (values r) s′) e h
 
-abbrev of-automaton : tie.After-state-count → tie.After-automaton
-of-automaton c = c .before .before .before .before .before .before
+-- ---- The places: the entry, the call of `automaton`, the case of an automaton, the call of `arcs`
 
-abbrev entry : tie.After-state-count → tie.Start
-entry c = of-automaton c .before .before .before .before .before .before .before
+abbrev entry : tie.After-accepting → tie.Start
+entry c = c .before .before .before
 
--- ---- The needs
+abbrev made : tie.After-accepting2 → tie.After-automaton
+made c = c .before
 
-slice-aggregate-automaton : tie.Need-slice-aggregate-automaton
-slice-aggregate-automaton c = search needs
+abbrev built : tie.After-arcs-arg → tie.After-state-count
+built c = c .before .before
 
-slice-aggregate-automaton-2 : tie.Need-slice-aggregate-automaton-2
-slice-aggregate-automaton-2 c = search needs
+abbrev arcs-home : tie.After-accepting3 → tie.After-block2
+arcs-home c = c .before .before .before
 
-slice-aggregate-automaton-3 : tie.Need-slice-aggregate-automaton-3
-slice-aggregate-automaton-3 c = search needs
+abbrev arcs-put : tie.After-accepting3 → tie.After-arcs
+arcs-put c = arcs-home c .before
 
-slice-aggregate-automaton-4 : tie.Need-slice-aggregate-automaton-4
-slice-aggregate-automaton-4 c = search needs
+-- ---- The needs. Three steps at once lead past the columns of arcs, in whatever order they are lent.
 
-automaton-requires : tie.Need-automaton-requires
-automaton-requires c κs = search needs
+refused : tie.Need-returns
+refused c =
+    let put = c .before .before in
+    let told = put .before .before .before in
+    let home = told .before .before in
+    let a = made (home .before .before .before) in
+    lists-refusal (made-as (told .number .given .1) (a .automaton .ensures)) (put .refused .ensures .0)
 
-enum-known-number : tie.Need-enum-known-number
-enum-known-number c = search needs
-
-refused-requires : tie.Need-refused-requires
-refused-requires c κs = search needs
-
-enum-known-state-count : tie.Need-enum-known-state-count
-enum-known-state-count c = search needs
-
-slice-aggregate-arcs : tie.Need-slice-aggregate-arcs
-slice-aggregate-arcs c = search needs
-
-slice-aggregate-arcs-2 : tie.Need-slice-aggregate-arcs-2
-slice-aggregate-arcs-2 c = search needs
-
-slice-aggregate-arcs-3 : tie.Need-slice-aggregate-arcs-3
-slice-aggregate-arcs-3 c = search needs
-
-arcs-requires : tie.Need-arcs-requires
-arcs-requires c κs =
-    let case = c .before .before .before .before .before in
-    let made = of-automaton case .automaton in
-    let within = built-within (case .state-count .given .1) (made .ensures) .1 in
-    let kept = made .kept .1 .1 in
-    (omega (arith, entry case .pre), omega (arith, within, kept .0), omega (arith, within, kept .1 .1 .0), omega (arith, within, kept .1 .0))
-
-slice-aggregate-states : tie.Need-slice-aggregate-states
-slice-aggregate-states c = search needs
-
-states-requires : tie.Need-states-requires
-states-requires c κs =
-    let printed = c .before .before .before .before .arcs in
-    let case = c .before .before .before .before .before .before .before .before .before .before in
-    let made = of-automaton case .automaton in
-    let within = built-within (case .state-count .given .1) (made .ensures) .0 in (
-      omega (arith, entry case .pre, printed .kept .0),
-      omega (arith, printed .kept .0, printed .ensures),
-      omega (arith, within, made .kept .1 .0),
+arcs-asked : tie.Need-arcs-requires
+arcs-asked c κs =
+    let case = built (c .before .before .before) in
+    let home = case .before .before in
+    let a = made (home .before .before .before) in
+    let lent = a .before .before .before in
+    let b = built-from (made-as (case .state-count .given .1) (a .automaton .ensures)) refl in
+    let few = few-arcs b in
+    let kept = a .automaton .kept .1 .1 in (
+      (
+        omega (arith, entry (lent .before) .pre),
+        omega (arith, kept .0),
+        omega (arith, kept .1 .0),
+        omega (arith, kept .1 .1 .0),
+      ),
+      narrow b,
     )
 
-same-length : tie.Need-same-length
-same-length c = search needs
+states-asked : tie.Need-states-requires
+states-asked c κs =
+    let put = arcs-put c in
+    let lending = put .before in
+    let case = built (lending .before .before .before) in
+    let home = case .before .before in
+    let a = made (home .before .before .before) in
+    let lent = a .before .before .before in
+    let b = built-from (made-as (case .state-count .given .1) (a .automaton .ensures)) refl in
+    let few = few-states b in
+    let arcs = few-arcs b in (
+      omega (arith, put .arcs .ensures .1, put .arcs .kept .0, entry (lent .before) .pre),
+      omega (arith, a .automaton .kept .1 .0),
+      few,
+    )
 
-returns : tie.Need-returns
-returns c = counts-of _ _ (omega (arith, c .before .before .refused .ensures .1, c .before .before .refused .kept .0, c .before .before .before .before .before .before .before .before .before .before .before .before .before .before .before .before .before .before .pre))
-
-same-length-2 : tie.Need-same-length-2
-same-length-2 c = search needs
-
-returns-2 : tie.Need-returns-2
-returns-2 c = counts-of _ _ (omega (arith, c .before .before .states .ensures, c .before .before .states .kept .0))
+listed : tie.Need-returns-2
+listed c =
+    let last = c .before .before in
+    let put = arcs-put (last .before) in
+    let lending = put .before in
+    let case = built (lending .before .before .before) in
+    let home = case .before .before in
+    let a = made (home .before .before .before) in
+    let h = made-as (case .state-count .given .1) (a .automaton .ensures) in
+    lists-automaton h (built-from h refl) (put .arcs .ensures .0) (last .states .ensures .0)
 
 pub list-spec : {M : Type 1} → statement M
 list-spec =
     tie.close
-    (tie.spec
-    slice-aggregate-automaton
-    slice-aggregate-automaton-2
-    slice-aggregate-automaton-3
-    slice-aggregate-automaton-4
-    automaton-requires
-    enum-known-number
-    refused-requires
-    enum-known-state-count
-    slice-aggregate-arcs
-    slice-aggregate-arcs-2
-    slice-aggregate-arcs-3
-    arcs-requires
-    slice-aggregate-states
-    states-requires
-    same-length
-    returns
-    same-length-2
-    returns-2)
+    (tie.spec (λ c. search needs) (λ c. search needs) (λ c. search needs) (λ c. search needs) (λ c κs. search needs) (λ c. search needs) (λ c κs. search needs)
+    (λ c. search needs) (λ c. search needs) (λ c. search needs) (λ c. search needs) arcs-asked (λ c. search needs) states-asked
+    (λ c. search needs) refused (λ c. search needs) listed)
