@@ -82,7 +82,7 @@ module _ {block : List ℕ} {input : Input} (i : Inside input block) (bytes rest
         → Line-of-block block input bytes line block′ column
     settled None l h = absurd (not-all List·Memᴰ·not-nil (h .holds .0) (h .holds .1))
     settled (Ended n input′) l h = elim (h .holds .3) [
-      | inl t ↦ of-line (h .holds .0) (h .holds .1) (h .holds .2) t
+      | inl t ↦ of-line (let l = h .holds .0 in omega arith) (h .holds .1) (h .holds .2) t
       | inr t ↦ absurd (not-all (h .holds .2) (t .1 .0) (t .1 .1))
     ]
     settled (Full input′) l h = absurd (no-room l (h .holds .0) (h .holds .1) (h .holds .2))

@@ -17,7 +17,7 @@ use Rattle.lines.specs.declared.input.Line.{Line}
 use Rattle.lines.specs.declared.input.Line.the-variants.{None, Ended, Full, Failed}
 use Rattle.lines.specs.declared.input.Passed.the-variants.{To}
 use Rattle.lines.specs.declared.input.Passed.the-variants as rest
-use Rattle.lines.specs.Input.{Inside, untaken, Taken, of-block, of-reads, All-taken, Unbroken, last, Took, Passes, most-bytes}
+use Rattle.lines.specs.Input.{Inside, untaken, Taken, of-block, of-reads, All-taken, Unbroken, last, Took, Within, Whole, Passes, most-bytes}
 
 -- ---- Parts of a block
 
@@ -131,10 +131,10 @@ module _ {block₀ column₀ block column : List ℕ} {input₀ input : Input} {
     (s : Stored block₀ column₀ input₀ block column input n) where
   module _ {block′ : List ℕ} {b : ℕ} {input′ : Input} (i : Inside input′ block′) (t : Taken block input (b ∷ []) block′ input′) where
     -- The byte ends the line, or it is stored.
-    pub line-ended : b ≡ newline → Took block₀ input₀ (Ended n input′) block′ column
-    line-ended e = record {
+    pub line-ended : n < length column → b ≡ newline → Took block₀ input₀ (Ended n input′) block′ column
+    line-ended l e = record {
       holds = (
-        s .within,
+        l,
         i,
         s .unbroken,
         inl (subst (λ (x : ℕ). Taken block₀ input₀ (take n column ++ (x ∷ [])) block′ input′) e (taken-then i₀ (s .inside) i (s .taken) t)),
@@ -164,8 +164,8 @@ module _ {block₀ column₀ block column : List ℕ} {input₀ input : Input} {
 
   -- The input ends, or a read fails, where the block is used up.
   module _ {block′ : List ℕ} (kept : length block′ ≡ length block) (e : input .at ≡ input .end) where
-    pub line-last : {line : Line} → line ≡ last n input → Took block₀ input₀ line block′ column
-    line-last {line} q = subst (λ (r : Line). Took block₀ input₀ r block′ column) (sym q) (go (eqb n 0) refl)
+    pub line-last : n < length column → {line : Line} → line ≡ last n input → Took block₀ input₀ line block′ column
+    line-last l {line} q = subst (λ (r : Line). Took block₀ input₀ r block′ column) (sym q) (go (eqb n 0) refl)
       where
         all : All-taken block₀ input₀ (take n column)
         all = all-taken i₀ (s .inside) (s .taken) e
@@ -173,7 +173,7 @@ module _ {block₀ column₀ block column : List ℕ} {input₀ input : Input} {
         go : (b : Bool) → eqb n 0 ≡ b → Took block₀ input₀ (cond b None (Ended n input)) block′ column
         go true z = record { holds = subst (λ (k : ℕ). All-taken block₀ input₀ (take k column)) (eqb-true n 0 z) all }
         go false z = record {
-          holds = (s .within, inside-as kept (s .inside), s .unbroken, inr (let d = eqb-false n 0 z in omega arith, all, e));
+          holds = (l, inside-as kept (s .inside), s .unbroken, inr (let d = eqb-false n 0 z in omega arith, all, e));
         }
 
     pub line-failed : n < length column → Took block₀ input₀ Failed block′ column
@@ -232,3 +232,16 @@ module _ {block₀ block : List ℕ} {input₀ input : Input} {turns : ℕ} (i�
 pub took : {block : List ℕ} {input : Input} {r r′ : Line} {block′ column : List ℕ} → r ≡ r′ → Took block input r block′ column
     → Took block input r′ block′ column
 took {block} {input} {block′ = block′} {column = column} e h = subst (λ (l : Line). Took block input l block′ column) e h
+
+pub whole : {block : List ℕ} {input : Input} {block′ column : List ℕ} {most : ℕ} (line : Line) → Took block input line block′ column
+    → length column ≡ most + 1 → Whole most line column
+whole None h e = record { room = e; within = tt }
+whole (Ended n input) h e = record { room = e; within = let l = h .holds .0 in omega arith }
+whole (Full input) h e = record { room = e; within = tt }
+whole Failed h e = record { room = e; within = tt }
+
+pub within-column : {most : ℕ} {column : List ℕ} (line : Line) → Whole most line column → Within (length column) line
+within-column None h = tt
+within-column (Ended n input) h = let e = h .room in let l = h .within in omega arith
+within-column (Full input) h = tt
+within-column Failed h = tt

@@ -1,6 +1,6 @@
 -- What a taken line is: the bytes that stood in the lent block, up to a newline; where they do not reach one, what C's read put into the block
 -- after them. What a read puts there is libc's to say.
-use Prim.Native.Nat.{ℕ, _≤_, _<_}
+use Prim.Native.Nat.{ℕ, _+_, _≤_, _<_}
 use mathlib.Core.Path.{_≡_}
 use mathlib.Core.Bool.{Bool, true, false, cond}
 use mathlib.Core.Logic.{_⊎_}
@@ -54,7 +54,7 @@ Waits block input false = List·Memᴰ newline (untaken block input)
 abbrev pub Holds : List ℕ → Input → Line → List ℕ → List ℕ → Type 0
 Holds block input None block′ column = All-taken block input []
 Holds block input (Ended n input′) block′ column =
-    (n ≤ length column) × Inside input′ block′ × Unbroken (take n column)
+    (n < length column) × Inside input′ block′ × Unbroken (take n column)
     × (Taken block input (take n column ++ (newline ∷ [])) block′ input′
     ⊎ ((0 < n) × All-taken block input (take n column) × (input′ .at ≡ input′ .end)))
 Holds block input (Full input′) block′ column = Inside input′ block′ × Unbroken column × Taken block input column block′ input′
@@ -67,6 +67,24 @@ last n input = cond (eqb n 0) None (Ended n input)
 
 pub record Took (block : List ℕ) (input : Input) (line : Line) (block′ column : List ℕ) : Type 0 where
   pub holds : Holds block input line block′ column
+
+-- The bytes of a line as it was taken. One that filled the column has more.
+abbrev pub line-bytes : Line → List ℕ → List ℕ
+line-bytes None column = []
+line-bytes (Ended n input) column = take n column
+line-bytes (Full input) column = column
+line-bytes Failed column = []
+
+-- A column of one byte more than a line may have: a line that ended is no longer than that, and one that fills the column is.
+abbrev pub Within : ℕ → Line → Type 0
+Within most None = Unit {0}
+Within most (Ended n input) = n ≤ most
+Within most (Full input) = Unit {0}
+Within most Failed = Unit {0}
+
+pub record Whole (most : ℕ) (line : Line) (column : List ℕ) : Type 0 where
+  pub room : length column ≡ most + 1
+  pub within : Within most line
 
 -- More bytes than a line has: a proved loop has to end, and nothing says that a line does.
 abbrev pub most-bytes : ℕ

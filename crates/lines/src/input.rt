@@ -1,7 +1,8 @@
 // Lines of standard input. 01: they end at a newline; "A last line without newline counts if it has a byte".
 
 ghost use mathlib.Core.Path.{_≡_};
-ghost use Rattle.lines.specs.Input.{Inside, Nexts, Waits, last, Took, Passes};
+ghost use lib.ListN.{length};
+ghost use Rattle.lines.specs.Input.{Inside, Nexts, Waits, last, Took, Within, line-bytes, Passes};
 
 // The bytes of the lent block from `at` to `end` are read and not yet taken. A block of one byte takes nothing after a newline.
 pub struct Input {
@@ -112,6 +113,19 @@ fn last_line(length: usize, input: Input) -> Line
         return Line::None;
     }
     Line::Ended { length, input }
+}
+
+// The bytes of a line, as far as they were taken.
+pub fn bytes(line: Line, column: &[u8]) -> &[u8]
+    requires { ⌜ Within (length (now column)) line ⌝ }
+    ensures { λ r. ⌜ now r ≡ line-bytes line (now (column .entry)) ⌝ }
+{
+    match line {
+        Line::None => &column[..0],
+        Line::Ended { length, input: _ } => &column[..length],
+        Line::Full { input: _ } => column,
+        Line::Failed => &column[..0],
+    }
 }
 
 // After the rest of a line. A proved loop has to end, and nothing says that a line does: the turns are more than a run has.

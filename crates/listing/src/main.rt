@@ -11,6 +11,8 @@ ghost use lib.ListN.{length};
 ghost use Rattle.theory.specs.Arcs.{arc-columns};
 ghost use Rattle.theory.specs.Lines.{arc-line};
 ghost use Rattle.site.specs.Rooms;
+ghost use Rattle.theory.specs.Limit.{longest-text};
+ghost use Rattle.lines.specs.Input.{line-bytes, Whole};
 ghost use Rattle.lines.specs.Output.{Put};
 ghost use Rattle.listing.specs.Listing.{arc-bytes, state-bytes, listing-bytes, Narrow, arc-lines, state-text, state-lines, Lists, Prints};
 
@@ -95,30 +97,27 @@ fn list(text: &[u8], block: &mut [u8]) -> usize
     }
 }
 
-// The answer to a text, written out whole.
-fn print(text: &[u8]) -> Written
-    ensures { λ r. ⌜ Prints (now (text .entry)) r ⌝ }
+// The answer to a line as it was taken, written out whole.
+fn print(line: Line, column: &[u8]) -> Written
+    requires { ⌜ Whole longest-text line (now column) ⌝ }
+    ensures { λ r. ⌜ Prints (line-bytes line (now (column .entry))) r ⌝ }
 {
     let mut block = [0u8; LISTING];
-    let used = list(text, &mut block);
+    let used = list(lines::input::bytes(line, column), &mut block);
     output::write(&block[..used])
-}
-
-fn show(text: &[u8]) {
-    if let Written::Failed = print(text) {
-        output::tell_write_failed();
-    }
 }
 
 fn main() {
     // One byte at a time. 01: "nothing after it read".
     let mut taken = [0u8; 1];
     // A byte more than a text may have: of a longer line the reader sees that it is longer.
-    let mut text = [0u8; limit::TEXT + 1];
-    match lines::input::take_line(&mut taken, Input::start(), &mut text) {
-        Line::None => show(b""),
-        Line::Ended { length, input: _ } => show(&text[..length]),
-        Line::Full { input: _ } => show(&text),
-        Line::Failed => output::tell_read_failed(),
+    let mut column = [0u8; limit::TEXT + 1];
+    let line = lines::input::take_line(&mut taken, Input::start(), &mut column);
+    if let Line::Failed = line {
+        output::tell_read_failed();
+        return;
+    }
+    if let Written::Failed = print(line, &column) {
+        output::tell_write_failed();
     }
 }
