@@ -1,4 +1,4 @@
-// 01, "Two programs": reads one expression line and prints its automaton in the AT&T/OpenFst text format.
+// Reads one expression line and prints its automaton in the AT&T/OpenFst text format (01, "Two programs").
 
 use lines::input::Input;
 use lines::input::Line;

@@ -1,174 +1,152 @@
--- `judge` stays inside what it has, and ends. The measure is the number of turns that are left.
+-- `judge` answers each line that it takes, until there is none.
 use borrow.Author.Needs.{needs}
+use Prim.Native.Nat.{_+_, _≤_}
+use mathlib.Core.Path.{_≡_}
+use lib.ListN.{length}
+use Rattle.lines.specs.Input.{Inside}
 use native.Mathlib.Omega.{arith}
-use mathlib.Core.Path.{refl, sym, _∙_}
+use mathlib.Core.Path.{sym, _∙_}
 use lib.Seq.{length-take-le}
-use Rattle.lines.proofs.Taking.{took}
-use Rattle.records.proofs.Going.{Going}
+use Rattle.lines.proofs.Taking.{inside-as, whole}
+use Rattle.site.proofs.Judging.{few-states}
+use Rattle.records.proofs.Going.{taking, begins-as, roomy-as}
 use Rattle.records.proofs.judge.Statement.{statement}
 use Rattle.records.proofs.judge.Tie as tie
 
 abbrev Inv-loop : tie.InvT-loop
-Inv-loop taken₀ states accepting arcs from letter to record₀ current₀ next₀ block₀ used₀ input₀ turns₀ taken «record» current next block used input turns =
-    Going taken₀ taken «record» current next block used input
+Inv-loop text taken₀ states accepting arcs from letter to column₀ current₀ next₀ block₀ used₀ input₀ turns₀ taken column current next block used input turns =
+    Inside input taken × (length taken ≡ length taken₀) × (used ≤ 4096) × (length column ≡ 4097) × (length current ≡ 8) × (length next ≡ 8) × (length block ≡ 4096)
 
 abbrev μ-loop : tie.MeasureT-loop
-μ-loop taken₀ states accepting arcs from letter to record₀ current₀ next₀ block₀ used₀ input₀ turns₀ taken «record» current next block used input turns =
-    turns
+μ-loop text taken₀ states accepting arcs from letter to column₀ current₀ next₀ block₀ used₀ input₀ turns₀ taken column current next block used input turns = turns
 
-loop-holds : tie.Need-loop-holds Inv-loop μ-loop
-loop-holds c = record {
-  inside = c .before .before .before .before .before .pre;
-  taken-length = refl;
-  record-length = refl;
-  current-length = refl;
-  next-length = refl;
-  block-length = refl;
-  within = omega arith;
-}
+-- ---- The places: the entry, a turn, its room, its line, its answer, where it goes on
 
-sub-turns : tie.Need-sub-turns Inv-loop μ-loop
-sub-turns c = omega arith
+abbrev known : tie.At-loop Inv-loop μ-loop → tie.After-shared-slice-known3 Inv-loop μ-loop
+known c = c .before .before .before
 
-slice-aggregate-with-room : tie.Need-slice-aggregate-with-room Inv-loop μ-loop
-slice-aggregate-with-room c = sym (c .before .before .loop .inv .block-length)
+abbrev first-known : tie.After-shared-slice-known3 Inv-loop μ-loop → tie.After-shared-slice-known Inv-loop μ-loop
+first-known c = c .before .before .before
 
-with-room-requires : tie.Need-with-room-requires Inv-loop μ-loop
-with-room-requires c κs = let g = c .before .before .before .loop .inv in (omega (arith, g .block-length, g .within), omega (arith, g .block-length))
+abbrev begin : tie.At-loop Inv-loop μ-loop → tie.Start Inv-loop μ-loop
+begin c = first-known (known c) .before
 
-slice-aggregate-take-line : tie.Need-slice-aggregate-take-line Inv-loop μ-loop
-slice-aggregate-take-line c = sym (c .before .before .before .before .before .before .loop .inv .record-length)
+abbrev turn : tie.After-waits Inv-loop μ-loop → tie.At-loop Inv-loop μ-loop
+turn c = c .before .before .before
 
-take-line-requires : tie.Need-take-line-requires Inv-loop μ-loop
-take-line-requires c κs = c .before .before .before .before .before .before .loop .inv .inside
+abbrev in-turn : tie.After-waits Inv-loop μ-loop → tie.In-loop Inv-loop μ-loop
+in-turn c = c .before .before
 
--- ---- No line
+abbrev roomed : tie.After-at Inv-loop μ-loop → tie.After-with-room Inv-loop μ-loop
+roomed c = c .before .before
 
-enum-told : tie.Need-enum-told Inv-loop μ-loop
-enum-told c = search needs
+abbrev waited : tie.After-with-room Inv-loop μ-loop → tie.After-waits Inv-loop μ-loop
+waited c = c .before .before
 
-same-length : tie.Need-same-length Inv-loop μ-loop
-same-length c = c .before .before .before .before .before .take-line .kept .0 ∙ c .before .before .before .before .before .before .before .before .before .before .before .before .loop .inv .taken-length
+abbrev room-left : tie.After-take-line Inv-loop μ-loop → tie.After-known-told Inv-loop μ-loop
+room-left c = c .before .before .before
 
-returns : tie.Need-returns Inv-loop μ-loop
-returns c = tt
+abbrev at-turn : tie.After-take-line Inv-loop μ-loop → tie.At-loop Inv-loop μ-loop
+at-turn c = turn (waited (roomed (room-left c .before)))
 
--- ---- A line that is too long
+abbrev lent : tie.After-block2 Inv-loop μ-loop → tie.After-column3 Inv-loop μ-loop
+lent c = c .before .before .before
 
-enum-known-behind : tie.Need-enum-known-behind Inv-loop μ-loop
-enum-known-behind c = search needs
+abbrev home : tie.After-column3 Inv-loop μ-loop → tie.After-taken Inv-loop μ-loop
+home c = c .before .before .before
 
-rest-requires : tie.Need-rest-requires Inv-loop μ-loop
-rest-requires c κs = took (c .before .before .behind .given .1) (c .before .before .before .before .before .before .before .take-line .ensures) .holds .1
+abbrev line-taken : tie.After-block2 Inv-loop μ-loop → tie.After-take-line Inv-loop μ-loop
+line-taken c = home (lent c) .before
 
-slice-aggregate-refused : tie.Need-slice-aggregate-refused Inv-loop μ-loop
-slice-aggregate-refused c = sym (c .before .before .before .before .before .before .before .before .before .before .before .before .before .before .before .before .before .before .loop .inv .block-length)
+abbrev answered : tie.After-block3 Inv-loop μ-loop → tie.After-answer Inv-loop μ-loop
+answered c = c .before .before .before
 
-refused-requires : tie.Need-refused-requires Inv-loop μ-loop
-refused-requires c κs = c .before .before .before .before .before .before .before .before .before .before .before .before .before .before .with-room .ensures .0
+abbrev gone : tie.After-slice-known3 Inv-loop μ-loop → tie.After-go-on Inv-loop μ-loop
+gone c = c .before .before
+
+abbrev line-answered : tie.After-slice-known3 Inv-loop μ-loop → tie.After-answer Inv-loop μ-loop
+line-answered c = answered (gone c .before .before)
+
+abbrev told : tie.After-tell-read-failed Inv-loop μ-loop → tie.After-enum-told3 Inv-loop μ-loop
+told c = c .before .before .before
+
+-- The room that a turn had for its answer.
+fits : (c : tie.After-take-line Inv-loop μ-loop) → room-left c .before .at .given .0 .0 + 64 ≤ 4096
+fits c =
+    let room = room-left c .before in
+    let enough = roomy-as _ _ _ (room .at .given .1) (roomed room .with-room .ensures) in
+    omega (arith, enough .0, at-turn c .loop .inv .6)
+
+-- The answer stands in the block.
+block-fits : (c : tie.After-slice-known3 Inv-loop μ-loop)
+    → (let said = line-answered c .answer in said .result ≤ length (said .last .1 .1 .1 .1 .1 .1 .1 .1 .1 .1 .1 .0))
+block-fits c =
+    let said = line-answered c in
+    let line = line-taken (said .before) in
+    omega (arith, said .answer .ensures .short, fits line, said .answer .kept .1 .1 .1 .1 .1 .1 .1 .1 .1 .1 .1 .0, at-turn line .loop .inv .6)
+
+-- ---- The needs
+
+answer-requires : tie.Need-answer-requires Inv-loop μ-loop
+answer-requires c κs =
+    let line = line-taken c in
+    let at = at-turn line in
+    let sited = begin at .pre .0 in
+    let few = few-states sited in
+    let inv = at .loop .inv in
+    let room = fits line in
+    let held = whole _ (line .take-line .ensures) (line .take-line .kept .1 .1 .0 ∙ inv .3) in
+    (sited, (record { current = omega arith; next = omega arith }, (held, omega arith)))
+
+go-on-requires : tie.Need-go-on-requires Inv-loop μ-loop
+go-on-requires c κs = let line = line-taken (answered (c .before) .before) in taking _ (line .take-line .ensures)
 
 loop-less : tie.Need-loop-less Inv-loop μ-loop
-loop-less c = omega (arith, c .before .before .before .before .before .before .before .before .before .before .before .before .before .before .before .before .before .before .before .loop-test .taken)
+loop-less c =
+    let line = line-taken (line-answered (c .before .before .before) .before) in
+    omega (arith, in-turn (waited (roomed (room-left line .before))) .loop-test .taken)
 
 loop-again : tie.Need-loop-again Inv-loop μ-loop
 loop-again c =
-    let refused = c .before .refused in
-    let rest = c .before .before .before .before .before .rest in
-    let line = c .before .before .before .before .before .before .before .before .before .before .before .before .before .take-line in
-    let g = c .before .before .before .before .before .before .before .before .before .before .before .before .before .before .before .before .before .before .before .before .loop .inv in
-    record {
-      inside = rest .ensures;
-      taken-length = rest .kept .0 ∙ line .kept .0 ∙ g .taken-length;
-      record-length = line .kept .1 .1 .0 ∙ g .record-length;
-      current-length = g .current-length;
-      next-length = g .next-length;
-      block-length = refused .kept .0 ∙ g .block-length;
-      within = omega (arith, refused .ensures .1, c .before .before .before .before .before .before .before .before .before .before .before .before .before .before .before .before .with-room .ensures .0, g .block-length);
-    }
-
--- ---- A record
-
-enum-known-length : tie.Need-enum-known-length Inv-loop μ-loop
-enum-known-length c = search needs
-
-array-share-prefix-record : tie.Need-array-share-prefix-record Inv-loop μ-loop
-array-share-prefix-record c = took (c .before .length .given .1) (c .before .before .before .before .before .before .take-line .ensures) .holds .0
-
-slice-aggregate-judge : tie.Need-slice-aggregate-judge Inv-loop μ-loop
-slice-aggregate-judge c = sym (length-take-le _ _ (took (c .before .before .length .given .1) (c .before .before .before .before .before .before .before .take-line .ensures) .holds .0))
-
-slice-aggregate-judge-2 : tie.Need-slice-aggregate-judge-2 Inv-loop μ-loop
-slice-aggregate-judge-2 c = sym (c .before .before .before .before .before .before .before .before .before .before .before .before .before .before .before .loop .inv .current-length)
-
-slice-aggregate-judge-3 : tie.Need-slice-aggregate-judge-3 Inv-loop μ-loop
-slice-aggregate-judge-3 c = sym (c .before .before .before .before .before .before .before .before .before .before .before .before .before .before .before .before .loop .inv .next-length)
-
-judge-requires : tie.Need-judge-requires Inv-loop μ-loop
-judge-requires c κs = search needs
-
-slice-aggregate-verdict : tie.Need-slice-aggregate-verdict Inv-loop μ-loop
-slice-aggregate-verdict c = sym (c .before .before .before .before .before .before .before .before .before .before .before .before .before .before .before .before .before .before .before .before .loop .inv .block-length)
-
-verdict-requires : tie.Need-verdict-requires Inv-loop μ-loop
-verdict-requires c κs = c .before .before .before .before .before .before .before .before .before .before .before .before .before .before .before .before .with-room .ensures .0
-
-loop-less-2 : tie.Need-loop-less-2 Inv-loop μ-loop
-loop-less-2 c = omega (arith, c .before .before .before .before .before .before .before .before .before .before .before .before .before .before .before .before .before .before .before .before .before .loop-test .taken)
-
-loop-again-2 : tie.Need-loop-again-2 Inv-loop μ-loop
-loop-again-2 c =
-    let verdict = c .before .verdict in
-    let judged = c .before .before .before .before .before .judge .kept .1 .1 .1 .1 .1 .1 .1 in
-    let line = c .before .before .before .before .before .before .before .before .before .before .before .before .before .before .before .take-line in
-    let g = c .before .before .before .before .before .before .before .before .before .before .before .before .before .before .before .before .before .before .before .before .before .before .loop .inv in
-    record {
-      inside = took (c .before .before .before .before .before .before .before .before .before .before .length .given .1) (line .ensures) .holds .2;
-      taken-length = line .kept .0 ∙ g .taken-length;
-      record-length = line .kept .1 .1 .0 ∙ g .record-length;
-      current-length = judged .0 ∙ g .current-length;
-      next-length = judged .1 .0 ∙ g .next-length;
-      block-length = verdict .kept .0 ∙ g .block-length;
-      within = omega (arith, verdict .ensures .1, c .before .before .before .before .before .before .before .before .before .before .before .before .before .before .before .before .before .before .with-room .ensures .0, g .block-length);
-    }
-
--- ---- No turn left
+    let after = c .before in
+    let go = gone (after .before .before) in
+    let said = line-answered (after .before .before) in
+    let line = line-taken (said .before) in
+    let inv = at-turn line .loop .inv in
+    let kept = said .answer .kept in (
+      begins-as _ (after .after .given .1) (go .go-on .ensures),
+      omega (arith, go .go-on .kept .0, line .take-line .kept .0, inv .1),
+      omega (arith, said .answer .ensures .short, fits line),
+      omega (arith, line .take-line .kept .1 .1 .0, inv .3),
+      omega arith,
+      omega arith,
+      omega arith,
+    )
 
 same-length-2 : tie.Need-same-length-2 Inv-loop μ-loop
-same-length-2 c = c .before .loop .inv .taken-length
+same-length-2 c =
+    let at = (c .before .before) in
+    let line = line-taken (line-answered at .before) in
+    omega (arith, gone at .go-on .kept .0, line .take-line .kept .0, at-turn line .loop .inv .1)
 
-returns-2 : tie.Need-returns-2 Inv-loop μ-loop
-returns-2 c = tt
+array-share-prefix-block : tie.Need-array-share-prefix-block Inv-loop μ-loop
+array-share-prefix-block c = block-fits (c .before .before)
+
+slice-aggregate-write : tie.Need-slice-aggregate-write Inv-loop μ-loop
+slice-aggregate-write c = sym (length-take-le _ _ (block-fits (c .before .before .before)))
+
+same-length-3 : tie.Need-same-length-3 Inv-loop μ-loop
+same-length-3 c =
+    let at = (told c .before .before) in
+    let line = line-taken (line-answered at .before) in
+    omega (arith, gone at .go-on .kept .0, line .take-line .kept .0, at-turn line .loop .inv .1)
 
 pub judge-spec : {M : Type 1} → statement M
 judge-spec =
     tie.close
-    (tie.spec
-    Inv-loop
-    μ-loop
-    loop-holds
-    sub-turns
-    slice-aggregate-with-room
-    with-room-requires
-    slice-aggregate-take-line
-    take-line-requires
-    enum-told
-    same-length
-    returns
-    enum-known-behind
-    rest-requires
-    slice-aggregate-refused
-    refused-requires
-    loop-less
-    loop-again
-    enum-known-length
-    array-share-prefix-record
-    slice-aggregate-judge
-    slice-aggregate-judge-2
-    slice-aggregate-judge-3
-    judge-requires
-    slice-aggregate-verdict
-    verdict-requires
-    loop-less-2
-    loop-again-2
-    same-length-2
-    returns-2)
+    (tie.spec Inv-loop μ-loop (λ c. search needs) (λ c. search needs) (λ c κs. search needs) (λ c. search needs) (λ c κs. search needs)
+    (λ c. search needs) (λ c. search needs) (λ c κs. search needs) (λ c. search needs) (λ c. search needs) (λ c. search needs)
+    (λ c κs. search needs) (λ c. search needs) (λ c. search needs) (λ c. search needs) (λ c. search needs) answer-requires go-on-requires
+    (λ c. search needs) loop-less loop-again (λ c. search needs) same-length-2 (λ c. search needs) (λ c. search needs) array-share-prefix-block
+    slice-aggregate-write (λ c κs. search needs) (λ c κs. search needs) same-length-3 (λ c. search needs) (λ c. search needs)
+    (λ c. search needs))

@@ -1,86 +1,42 @@
+-- `verdict` puts the line of the matcher's answer.
 use borrow.Author.Needs.{needs}
 use native.Mathlib.Omega.{arith}
-use Rattle.records.proofs.Said.{said}
+use Rattle.records.proofs.Answering.{said}
 use Rattle.records.proofs.verdict.Statement.{statement}
 use Rattle.records.proofs.verdict.Tie as tie
 
-enum-known-judgement : tie.Need-enum-known-judgement
-enum-known-judgement c = search needs
+-- ---- The places: the case of each call
 
-slice-aggregate-line : tie.Need-slice-aggregate-line
-slice-aggregate-line c = search needs
+abbrev accepted : tie.After-line → tie.After-known-told
+accepted c = c .before .before .before
 
-line-requires : tie.Need-line-requires
-line-requires c κs = search needs
+abbrev unfinished : tie.After-line2 → tie.After-known-told2
+unfinished c = c .before .before .before
 
-enum-known-judgement-2 : tie.Need-enum-known-judgement-2
-enum-known-judgement-2 c = search needs
+abbrev wrong : tie.After-line3 → tie.After-known-told3
+wrong c = c .before .before .before
 
-slice-aggregate-line-2 : tie.Need-slice-aggregate-line-2
-slice-aggregate-line-2 c = search needs
+-- ---- The needs
 
-line-requires-2 : tie.Need-line-requires-2
-line-requires-2 c κs = search needs
+accepted-put : tie.Need-returns
+accepted-put c =
+    let l = c .before .before in (said (accepted l .before .judgement .given .1) (l .line .ensures .0), omega (arith, l .line .ensures .1))
 
-enum-known-judgement-3 : tie.Need-enum-known-judgement-3
-enum-known-judgement-3 c = search needs
+unfinished-put : tie.Need-returns-2
+unfinished-put c =
+    let l = c .before .before in (said (unfinished l .before .judgement2 .given .1) (l .line2 .ensures .0), omega (arith, l .line2 .ensures .1))
 
-slice-aggregate-line-3 : tie.Need-slice-aggregate-line-3
-slice-aggregate-line-3 c = search needs
+wrong-put : tie.Need-returns-3
+wrong-put c =
+    let l = c .before .before in (said (wrong l .before .judgement3 .given .1) (l .line3 .ensures .0), omega (arith, l .line3 .ensures .1))
 
-line-requires-3 : tie.Need-line-requires-3
-line-requires-3 c κs = search needs
-
-enum-known-judgement-4 : tie.Need-enum-known-judgement-4
-enum-known-judgement-4 c = search needs
-
-refused-requires : tie.Need-refused-requires
-refused-requires c κs = search needs
-
-same-length : tie.Need-same-length
-same-length c = search needs
-
-returns : tie.Need-returns
-returns c = (said (c .before .before .before .before .before .before .judgement .given .1) (c .before .before .line .ensures .0), omega (arith, c .before .before .line .ensures .1))
-
-same-length-2 : tie.Need-same-length-2
-same-length-2 c = search needs
-
-returns-2 : tie.Need-returns-2
-returns-2 c = (said (c .before .before .before .before .before .before .judgement2 .given .1) (c .before .before .line2 .ensures .0), omega (arith, c .before .before .line2 .ensures .1))
-
-same-length-3 : tie.Need-same-length-3
-same-length-3 c = search needs
-
-returns-3 : tie.Need-returns-3
-returns-3 c = (said (c .before .before .before .before .before .before .judgement3 .given .1) (c .before .before .line3 .ensures .0), omega (arith, c .before .before .line3 .ensures .1))
-
-same-length-4 : tie.Need-same-length-4
-same-length-4 c = search needs
-
-returns-4 : tie.Need-returns-4
-returns-4 c = (said (c .before .before .before .before .before .judgement4 .given .1) (c .before .before .refused .ensures .0), c .before .before .refused .ensures .1)
+refused-put : tie.Need-returns-4
+refused-put c =
+    let l = c .before .before in (said (l .before .before .before .judgement4 .given .1) (l .refused .ensures .0), l .refused .ensures .1)
 
 pub verdict-spec : {M : Type 1} → statement M
 verdict-spec =
     tie.close
-    (tie.spec
-    enum-known-judgement
-    slice-aggregate-line
-    line-requires
-    enum-known-judgement-2
-    slice-aggregate-line-2
-    line-requires-2
-    enum-known-judgement-3
-    slice-aggregate-line-3
-    line-requires-3
-    enum-known-judgement-4
-    refused-requires
-    same-length
-    returns
-    same-length-2
-    returns-2
-    same-length-3
-    returns-3
-    same-length-4
-    returns-4)
+    (tie.spec (λ c. search needs) (λ c. search needs) (λ c κs. search needs) (λ c. search needs) (λ c. search needs) (λ c κs. search needs)
+    (λ c. search needs) (λ c. search needs) (λ c κs. search needs) (λ c. search needs) (λ c κs. search needs)
+    (λ c. search needs) accepted-put (λ c. search needs) unfinished-put (λ c. search needs) wrong-put (λ c. search needs) refused-put)
