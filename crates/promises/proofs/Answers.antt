@@ -10,14 +10,14 @@ use Rattle.theory.specs.Automaton.{states}
 use Rattle.theory.specs.Table.{Table, tree, table-refusal}
 use Rattle.theory.specs.Grammar.{Text}
 use Rattle.theory.specs.Read.{Read, Entered, entered}
-use Rattle.theory.specs.Build.{Lent, Counts, Built, build-refusal}
-use Rattle.theory.specs.Record.{Handed, Work, Verdict, accepted, unfinished, wrong, verdict, live, matcher-refusal}
+use Rattle.theory.specs.Build.{Lent, Counts, Built}
+use Rattle.theory.specs.Record.{Handed, Work, Verdict, accepted, unfinished, wrong, verdict, live}
 use Rattle.theory.specs.Judge.{Judgement as Values, Judged, given}
 use Rattle.theory.proofs.Rows.Trees.{entries-positive}
 use Rattle.theory.proofs.Expressed.{expressed}
 use Rattle.theory.proofs.Answers.{counts-built, judgement-given}
 use Rattle.theory.proofs.States.{states-some}
-use Rattle.table.specs.Checked.{Scanned, refusal-of}
+use Rattle.table.specs.Checked.{Scanned}
 use Rattle.table.specs.declared.Checked.{Checked}
 use Rattle.table.specs.declared.Checked.the-variants as check
 use Rattle.reader.specs.Answer as reader

@@ -7,7 +7,7 @@ use mathlib.Core.Bool.{true, false, false≢true}
 use mathlib.Core.List.{List·Memᴰ, List·Memᴰ·cases-cons, List·Memᴰ·not-nil}
 use mathlib.Core.Logic.{⊎-elim}
 use lib.Dec.{T}
-use Rattle.theory.specs.Expression.{Expression, letters}
+use Rattle.theory.specs.Expression.{letters}
 use Rattle.theory.specs.Language.{Word, In}
 use Rattle.theory.specs.Record.{automaton, accepts}
 use Rattle.theory.proofs.WellFormed.{Lettered}

@@ -5,7 +5,7 @@ use mathlib.Core.Option.{none}
 use lib.ListN.{length, getD}
 use Rattle.theory.specs.Expression.{Expression, entries}
 use Rattle.theory.specs.Refusal.{refusal}
-use Rattle.theory.specs.Table.{Table, table}
+use Rattle.theory.specs.Table.{Table}
 use Rattle.theory.specs.Grammar.{Text, read, refused, rows}
 use Rattle.theory.specs.Scan.{token, Stand, next, finish, scan}
 use Rattle.theory.specs.Read.{Due, left-by}

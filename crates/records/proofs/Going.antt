@@ -7,7 +7,7 @@ use Rattle.lines.specs.declared.input.Input.{Input}
 use Rattle.lines.specs.declared.input.Line.{Line}
 use Rattle.lines.specs.declared.input.Line.the-variants.{None, Ended, Full, Failed}
 use Rattle.lines.specs.declared.input.Passed.{Passed}
-use Rattle.lines.specs.Input.{Inside, Took, Passes}
+use Rattle.lines.specs.Input.{Took, Passes}
 use Rattle.lines.specs.declared.output.Room.{Room}
 use Rattle.lines.specs.Output.{Roomy}
 use Rattle.theory.specs.Grammar.{Text}

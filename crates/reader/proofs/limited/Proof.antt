@@ -46,8 +46,8 @@ too-long : tie.Need-returns-2
 too-long c =
     let called = cleared (c .before .before) in
     let equal = whole.both-equal _ _ _ (c .before .if1 .left) in
-    whole.due-long (start called .args .text .now) (lent (start called)) (left-by-call (called .clear-table .last)) (called .clear-table .ensures) (equal .0) (equal .1)
-    (c .if2 .taken)
+    whole.due-long (start called .args .text .now) (lent (start called)) (left-by-call (called .clear-table .last)) (called .clear-table .ensures)
+    (equal .0) (equal .1) (c .if2 .taken)
 
 whole-asked : tie.Need-whole-requires
 whole-asked c κs =
@@ -63,7 +63,8 @@ text-read c =
     let room = limiting (read .before) in
     let called = cleared (room .before .before .before) in
     let equal = whole.both-equal _ _ _ (room .before .before .if1 .left) in
-    whole.limited (start called .args .text .now) (lent (start called)) (left-by-call (called .clear-table .last)) (called .clear-table .ensures) (equal .0) (equal .1)
+    whole.limited (start called .args .text .now) (lent (start called)) (left-by-call (called .clear-table .last)) (called .clear-table .ensures)
+    (equal .0) (equal .1)
     (room .before .if2 .left) (room .smaller .result) (room .smaller .ensures) (read .whole .result) (left-by-call (read .whole .last .1 .1))
     (read .whole .ensures)
 

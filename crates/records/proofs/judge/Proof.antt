@@ -7,7 +7,7 @@ use Rattle.lines.specs.Input.{Inside}
 use native.Mathlib.Omega.{arith}
 use mathlib.Core.Path.{sym, _∙_}
 use lib.Seq.{length-take-le}
-use Rattle.lines.proofs.Taking.{inside-as, whole}
+use Rattle.lines.proofs.Taking.{whole}
 use Rattle.site.proofs.Judging.{few-states}
 use Rattle.records.proofs.Going.{taking, begins-as, roomy-as}
 use Rattle.records.proofs.judge.Statement.{statement}
@@ -15,10 +15,12 @@ use Rattle.records.proofs.judge.Tie as tie
 
 abbrev Inv-loop : tie.InvT-loop
 Inv-loop text taken₀ states accepting arcs from letter to column₀ current₀ next₀ block₀ used₀ input₀ turns₀ taken column current next block used input turns =
-    Inside input taken × (length taken ≡ length taken₀) × (used ≤ 4096) × (length column ≡ 4097) × (length current ≡ 8) × (length next ≡ 8) × (length block ≡ 4096)
+    Inside input taken × (length taken ≡ length taken₀) × (used ≤ 4096) × (length column ≡ 4097) × (length current ≡ 8) × (length next ≡ 8)
+    × (length block ≡ 4096)
 
 abbrev μ-loop : tie.MeasureT-loop
-μ-loop text taken₀ states accepting arcs from letter to column₀ current₀ next₀ block₀ used₀ input₀ turns₀ taken column current next block used input turns = turns
+μ-loop text taken₀ states accepting arcs from letter to column₀ current₀ next₀ block₀ used₀ input₀ turns₀ taken column current next block used input turns =
+    turns
 
 -- ---- The places: the entry, a turn, its room, its line, its answer, where it goes on
 

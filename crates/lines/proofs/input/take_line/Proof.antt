@@ -50,7 +50,8 @@ ended : tie.Need-returns-2 Inv-loop μ-loop
 ended c =
     let k = called (c .before .before .before) in
     let used-up = subst (owes k) (c .before .enum-told2 .given .1) (k .take-byte .ensures) in
-    line-last (start (turn k) .pre) (turn k .loop .inv) (k .take-byte .kept .0) used-up (omega (arith, k .before .before .loop-test .taken)) (c .last-line .ensures)
+    line-last (start (turn k) .pre) (turn k .loop .inv) (k .take-byte .kept .0) used-up (omega (arith, k .before .before .loop-test .taken))
+    (c .last-line .ensures)
 
 newline : tie.Need-returns-3 Inv-loop μ-loop
 newline c =
