@@ -3,6 +3,7 @@ pub mod Examples
 pub mod Printed
 pub mod Mistakes
 pub mod Limits
+pub mod Site
 pub mod DemandOne
 pub mod JudgesSo
 pub mod Handing

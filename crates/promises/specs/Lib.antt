@@ -7,6 +7,7 @@ pub mod Examples
 pub mod Printed
 pub mod Mistakes
 pub mod Limits
+pub mod Site
 pub mod DemandOne
 pub mod DemandTwo
 pub mod DemandThree

@@ -3,6 +3,7 @@ use Prim.Native.Nat.{_<_}
 use native.Mathlib.Omega.{arith}
 use mathlib.Core.Path.{_≡_, refl, sym, ap, _∙_}
 use mathlib.Core.List.{[], append-nil}
+use Rattle.theory.specs.Expression.{Expression}
 use Rattle.theory.specs.Refusal.{Refusal, record-long}
 use Rattle.theory.specs.Table.{Table}
 use Rattle.theory.specs.Grammar.{Text, Reading, read, refused, Passed, Reads, whole, broken, stopped, deep, many}
@@ -11,7 +12,7 @@ use Rattle.theory.proofs.Grammar.Count.{made-written}
 use Rattle.theory.proofs.Rows.{read-fits}
 use Rattle.theory.proofs.Due.{due-once, left-by, leaves}
 use Rattle.promises.specs.Reader as Causes
-use Rattle.promises.specs.Reader.{Legible, ReaderCause, ReaderMeets, entry-room}
+use Rattle.promises.specs.Reader.{Legible, Written, ReaderCause, ReaderMeets, entry-room}
 use Rattle.promises.proofs.Causes.Exactly.{exactly}
 
 module _ {text : Text} {t : Table} where
@@ -47,6 +48,15 @@ module _ {text : Text} {t : Table} where
         shallow = w .shallow;
         fits = rw (← w .spelled, made-written e (w .writable)) (w .fits);
       }
+
+  -- A text that is written within the limits is the one that is read.
+  pub written-due : {e : Expression} → Written text t e → Due text t (read e)
+  unfolding dues
+  written-due {e} w = dues (Causes.none e w) .1
+
+  pub due-written : {e : Expression} → Due text t (read e) → Written text t e
+  due-written (short p q l (whole e w x b)) =
+      record { legible = record { even = (p, q); short = l }; writable = w; spelled = x; shallow = b .shallow; fits = read-fits (whole e w x b) }
 
   pub reader-due : {q : Reading} {r : Refusal} → Due text t q → ReaderCause text t r → (entered q) .refusal ≡ r
   reader-due d c = let (q, d′, e) = dues c in ap (λ q. (entered q) .refusal) (due-once d d′) ∙ e
