@@ -1,16 +1,42 @@
--- Between two records.
-use Prim.Native.Nat.{ℕ, _≤_}
-use mathlib.Core.Path.{_≡_}
+-- Between two turns of the records program.
+use Prim.Native.Nat.{ℕ, _+_, _≤_}
+use native.Mathlib.Omega.{arith}
+use mathlib.Core.Path.{_≡_, refl, _∙_}
 use mathlib.Core.List.{List}
 use lib.ListN.{length}
+use Rattle.theory.specs.Grammar.{Text}
+use Rattle.theory.specs.Record.{Handed, work, words, LongEnough}
 use Rattle.lines.specs.declared.input.Input.{Input}
+use Rattle.lines.specs.declared.input.Line.{Line}
 use Rattle.lines.specs.Input.{Inside}
+use Rattle.site.specs.Rooms
+use Rattle.site.specs.Sited.{Sited}
+use Rattle.site.proofs.Judging.{few-states}
+use Rattle.records.specs.Answer.{longest-record}
+use Rattle.records.specs.Turn.{Answers}
 
-pub record Going (taken₀ taken «record» current next block : List ℕ) (used : ℕ) (input : Input) : Type 0 where
+abbrev answers-room : ℕ
+answers-room = 4096
+
+-- The columns keep their lengths, and what is used is within the block.
+pub record Going (taken₀ taken column current next block : List ℕ) (input : Input) (used : ℕ) : Type 0 where
   pub inside : Inside input taken
   pub taken-length : length taken ≡ length taken₀
-  pub record-length : length «record» ≡ 4097
-  pub current-length : length current ≡ 8
-  pub next-length : length next ≡ 8
-  pub block-length : length block ≡ 4096
-  pub within : used ≤ 4096
+  pub column-length : length column ≡ longest-record + 1
+  pub current-length : length current ≡ words Rooms.states
+  pub next-length : length next ≡ words Rooms.states
+  pub block-length : length block ≡ answers-room
+  pub within : used ≤ length block
+
+module _ {taken₀ taken column current next block : List ℕ} {input : Input} {used : ℕ}
+    (g : Going taken₀ taken column current next block input used) where
+  -- The work columns hold a bit for each state.
+  pub long-enough : {text : Text} {h : Handed} → Sited text h → LongEnough (work current next) (h .states)
+  long-enough x =
+      let n = few-states x in
+      record { current = let l = g .current-length in omega arith; next = let l = g .next-length in omega arith }
+
+  -- What was used stays within the block with an answer after it.
+  pub within-still : {text : Text} {line : Line} {between column′ block′ : List ℕ} {used′ : ℕ} → length block′ ≡ length block
+      → Answers text taken input block used line between column′ block′ used′ → used′ ≤ length block′
+  within-still kept a = let s = a .answered .short in let r = a .room in omega arith

@@ -1,43 +1,38 @@
 // 01, "Two programs": reads an expression line, then judges one record per line.
 
-use builder::Building;
+mod answers;
+
+use answers::Turn;
 use lines::input::Input;
 use lines::input::Line;
 use lines::output;
-use matcher::Judgement;
-ghost use Prim.Native.Nat.{_+_, _≤_};
-ghost use mathlib.Core.List.{_++_};
+use lines::output::Written;
+use site::Site;
+use theory::limit;
+ghost use Prim.Native.Nat.{_≤_};
 ghost use lib.ListN.{length};
-ghost use Rattle.theory.specs.Lines.{number-and, newline};
-ghost use Rattle.lines.specs.Input.{Inside};
-ghost use Rattle.lines.specs.Output.{Put};
-ghost use Rattle.records.specs.Verdict.{line-of};
+ghost use Rattle.theory.specs.Limit.{longest-text};
+ghost use Rattle.theory.specs.Arcs.{arc-columns};
+ghost use Rattle.theory.specs.Record.{handed};
+ghost use Rattle.lines.specs.Input.{Inside, line-bytes, Whole};
+ghost use Rattle.lines.specs.Output.{line-room};
+ghost use Rattle.site.specs.Site.{shown};
+ghost use Rattle.site.specs.Sited.{Sited};
+ghost use Rattle.records.specs.Start.{Starts};
 
-fn line(block: &mut [u8], used: usize, word: &[u8], n: usize) -> usize
-    requires { ⌜ used + (length (now word) + 21) ≤ length (now block) ⌝ }
-    ensures { λ r. ⌜ Put (now (word .entry) ++ number-and n newline) (now (block .entry)) used (now (block .exit)) r ⌝ }
-    ensures { λ r. ⌜ r ≤ used + (length (now (word .entry)) + 21) ⌝ }
-{
-    let said = output::word(block, used, word);
-    output::number(block, said, n, b'\n')
-}
+// 01, refusal 16: "record line over 4,096 bytes".
+const RECORD: usize = 4096;
 
-// 01: "prints per record `accepted L`, `unfinished L` (L is live) or `wrong P`".
-fn verdict(block: &mut [u8], used: usize, judgement: Judgement) -> usize
-    requires { ⌜ used + 64 ≤ length (now block) ⌝ }
-    ensures { λ r. ⌜ Put (line-of judgement) (now (block .entry)) used (now (block .exit)) r ⌝ }
-    ensures { λ r. ⌜ r ≤ used + 64 ⌝ }
-{
-    match judgement {
-        Judgement::Accepted { live } => line(block, used, b"accepted ", live),
-        Judgement::Unfinished { live } => line(block, used, b"unfinished ", live),
-        Judgement::Wrong { place } => line(block, used, b"wrong ", place),
-        Judgement::Refused { number } => output::refused(block, used, number, 0),
-    }
-}
+// A bit for each state that the site has room for.
+const WORDS: usize = site::STATES / 64;
 
-// The records that are still to come, on the automaton in its columns.
+const TAKEN: usize = 65536;
+
+const ANSWERS: usize = 4096;
+
+// The records that are still to come.
 fn judge(
+    text: &[u8],
     taken: &mut [u8],
     input: Input,
     states: usize,
@@ -47,77 +42,140 @@ fn judge(
     letter: &[u8],
     to: &[u16],
 )
+    requires { ⌜ Sited (now text) (handed states (now accepting) arcs (arc-columns (now from) (now letter) (now to))) ⌝ }
     requires { ⌜ Inside input (now taken) ⌝ }
 {
-    let mut record = [0u8; 4097];
-    let mut current = [0u64; 8];
-    let mut next = [0u64; 8];
-    let mut block = [0u8; 4096];
+    // A byte more than a record may have: a longer line fills the column.
+    let mut column = [0u8; RECORD + 1];
+    let mut current = [0u64; WORDS];
+    let mut next = [0u64; WORDS];
+    let mut block = [0u8; ANSWERS];
     let mut used = 0;
     let mut input = input;
     let mut turns = u64::MAX;
     while turns > 0 {
         turns -= 1;
-        // What is judged is shown before the program waits for more, and so before the end of the input.
-        used = output::with_room(&block, used, input.at == input.end);
-        match lines::input::take_line(taken, input, &mut record) {
-            Line::None => return,
-            Line::Full { input: behind } => {
-                input = lines::input::rest(taken, behind);
-                used = output::refused(&mut block, used, 16, 0);
-            }
-            Line::Ended {
-                length,
-                input: behind,
+        match answers::answer_next(
+            text,
+            taken,
+            input,
+            &mut column,
+            states,
+            accepting,
+            arcs,
+            from,
+            letter,
+            to,
+            &mut current,
+            &mut next,
+            &mut block,
+            used,
+        ) {
+            Turn::Next {
+                input: after,
+                used: answered,
             } => {
-                input = behind;
-                let judgement = matcher::judge(
-                    states,
-                    accepting,
-                    arcs,
-                    from,
-                    letter,
-                    to,
-                    &record[..length],
-                    &mut current,
-                    &mut next,
-                );
-                used = verdict(&mut block, used, judgement);
+                input = after;
+                used = answered;
+            }
+            Turn::End => return,
+            Turn::ReadFailed { used: answered } => {
+                write_out(&block[..answered]);
+                output::tell_read_failed();
+                return;
+            }
+            Turn::WriteFailed => {
+                output::tell_write_failed();
+                return;
             }
         }
     }
 }
 
-fn refuse(number: u8, place: usize) {
-    let mut block = [0u8; 64];
-    let used = output::refused(&mut block, 0, number, place);
-    io::write_all(1, &block[..used]);
+fn write_out(bytes: &[u8]) {
+    if let Written::Failed = output::write(bytes) {
+        output::tell_write_failed();
+    }
 }
 
-fn start(text: &[u8], taken: &mut [u8], input: Input)
-    requires { ⌜ Inside input (now taken) ⌝ }
+enum Start {
+    Refused { used: usize },
+    Built { states: usize, arcs: usize },
+}
+
+// From the expression line to the refusal's line or the automaton.
+fn automaton_of(
+    line: Line,
+    column: &[u8],
+    accepting: &mut [u8],
+    from: &mut [u16],
+    letter: &mut [u8],
+    to: &mut [u16],
+    block: &mut [u8],
+) -> Start
+    requires { ⌜ Whole longest-text line (now column) × (line-room ≤ length (now block)) ⌝ }
+    ensures { λ r.
+        ⌜ Starts (line-bytes line (now (column .entry)))
+        (shown (now (accepting .entry)) (now (from .entry)) (now (letter .entry)) (now (to .entry))) (now (block .entry)) r
+        (shown (now (accepting .exit)) (now (from .exit)) (now (letter .exit)) (now (to .exit))) (now (block .exit)) ⌝ }
 {
-    let mut accepting = [0u8; 512];
-    let mut from = [0u16; 4096];
-    let mut letter = [0u8; 4096];
-    let mut to = [0u16; 4096];
-    match site::automaton(text, &mut accepting, &mut from, &mut letter, &mut to) {
-        Building::Refused { number, place } => refuse(number, place),
-        Building::Built {
+    let text = lines::input::bytes(line, column);
+    match site::automaton(text, accepting, from, letter, to) {
+        Site::Refused { number, place } => Start::Refused {
+            used: output::refused(block, 0, number, place),
+        },
+        Site::Built {
+            entries: _,
+            letters: _,
             states,
             expressions: _,
             arcs,
-        } => judge(taken, input, states, &accepting, arcs, &from, &letter, &to),
+        } => Start::Built { states, arcs },
+    }
+}
+
+// 01: "the records program stops there if the expression was refused".
+fn run(line: Line, column: &[u8], taken: &mut [u8], input: Input)
+    requires { ⌜ Whole longest-text line (now column) × Inside input (now taken) ⌝ }
+{
+    let mut accepting = [0u8; site::STATES];
+    let mut from = [0u16; site::ARCS];
+    let mut letter = [0u8; site::ARCS];
+    let mut to = [0u16; site::ARCS];
+    let mut block = [0u8; output::LINE];
+    match automaton_of(
+        line,
+        column,
+        &mut accepting,
+        &mut from,
+        &mut letter,
+        &mut to,
+        &mut block,
+    ) {
+        Start::Refused { used } => write_out(&block[..used]),
+        Start::Built { states, arcs } => judge(
+            lines::input::bytes(line, column),
+            taken,
+            input,
+            states,
+            &accepting,
+            arcs,
+            &from,
+            &letter,
+            &to,
+        ),
     }
 }
 
 fn main() {
-    let mut taken = [0u8; 65536];
+    let mut taken = [0u8; TAKEN];
     // A byte more than a text may have: of a longer line the reader sees that it is longer.
-    let mut text = [0u8; 4097];
-    match lines::input::take_line(&mut taken, Input::start(), &mut text) {
-        Line::None => start(b"", &mut taken, Input::start()),
-        Line::Ended { length, input } => start(&text[..length], &mut taken, input),
-        Line::Full { input } => start(&text, &mut taken, input),
+    let mut column = [0u8; limit::TEXT + 1];
+    let line = lines::input::take_line(&mut taken, Input::start(), &mut column);
+    match line {
+        Line::None => run(line, &column, &mut taken, Input::start()),
+        Line::Ended { length: _, input } => run(line, &column, &mut taken, input),
+        Line::Full { input } => run(line, &column, &mut taken, input),
+        Line::Failed => output::tell_read_failed(),
     }
 }
