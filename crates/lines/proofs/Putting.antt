@@ -4,7 +4,7 @@ use native.Mathlib.Nat.{add-zero, add-assoc}
 use native.Mathlib.Omega.{arith}
 use mathlib.Core.Path.{_≡_, refl, sym, ap, _∙_, subst}
 use mathlib.Core.List.{List, [], _∷_, _++_, append-nil, append-assoc}
-use lib.ListN.{length, getD, take, set, length-set, length-append}
+use lib.ListN.{length, getD, take, set, length-take, length-set, length-append}
 use lib.Seq.{take-all, take-suc, take-suc-set}
 use Rattle.io.specs.Digits.{Fewest}
 use Rattle.io.specs.Digits.{digits as Digits·digits}
@@ -19,6 +19,14 @@ put-nothing {block} {used} = record { count = sym (add-zero used); stands = sym 
 -- The same, as a loop begins.
 pub put-none : (block : List ℕ) (used : ℕ) → Put [] block used block (used + 0)
 put-none block used = rw add-zero put-nothing
+
+-- What stands in a block is no longer than it.
+pub put-within : {text before after : List ℕ} {used : ℕ} → Put text before 0 after used → used ≤ length after
+put-within {after = after} {used} p =
+    let n = p .count in
+    let m = length-take used after in
+    let e = ap length (p .stands) in
+    omega arith
 
 one-more : (n : ℕ) → n + 1 ≡ suc n
 one-more n = omega arith

@@ -3,7 +3,7 @@ use Prim.Native.Nat.{ℕ, _*_, _≤_, _<_}
 use native.Mathlib.Omega.{arith}
 use mathlib.Core.Path.{_≡_, refl, sym, ap, ap₂, _∙_, subst}
 use mathlib.Core.List.{List, _++_}
-use lib.ListN.{length, getD, take, length-take}
+use lib.ListN.{length, getD, take}
 use Rattle.theory.specs.Limit.{most-states}
 use Rattle.theory.specs.Refusal.{Refusal}
 use Rattle.theory.specs.Automaton.{states, arcs}
@@ -88,13 +88,6 @@ lists-automaton h b {before} {after = after} {used′ = used′} p q = record {
 }
 
 -- ---- What is handed on to be written
-
-pub used-within : {text : Text} {before after : List ℕ} {used : ℕ} → Lists text before after used → used ≤ length after
-used-within {after = after} {used} h =
-    let n = h .put .count in
-    let m = length-take used after in
-    let e = ap length (h .put .stands) in
-    omega arith
 
 pub prints : {text : Text} {before after : List ℕ} {used : ℕ} {written : Written} → Lists text before after used
     → Wrote (length (take used after)) written → Prints text written

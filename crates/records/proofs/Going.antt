@@ -1,40 +1,42 @@
--- What a taken line leaves in the block, whatever it is called.
-use Prim.Native.Nat.{ℕ}
-use mathlib.Core.Path.{_≡_, subst}
-use mathlib.Core.Bool.{Bool}
+-- Between two turns of the records program.
+use Prim.Native.Nat.{ℕ, _+_, _≤_}
+use native.Mathlib.Omega.{arith}
+use mathlib.Core.Path.{_≡_, refl, _∙_}
 use mathlib.Core.List.{List}
+use lib.ListN.{length}
+use Rattle.theory.specs.Grammar.{Text}
+use Rattle.theory.specs.Record.{Handed, work, words, LongEnough}
 use Rattle.lines.specs.declared.input.Input.{Input}
 use Rattle.lines.specs.declared.input.Line.{Line}
-use Rattle.lines.specs.declared.input.Line.the-variants.{None, Ended, Full, Failed}
-use Rattle.lines.specs.declared.input.Passed.{Passed}
-use Rattle.lines.specs.Input.{Took, Passes}
-use Rattle.lines.specs.declared.output.Room.{Room}
-use Rattle.lines.specs.Output.{Roomy}
-use Rattle.theory.specs.Grammar.{Text}
-use Rattle.site.specs.declared.Site.{Site}
-use Rattle.site.specs.Site.{Shown, Made}
-use Rattle.site.specs.Values.{values}
-use Rattle.records.specs.Answer.{Taking, Begins}
-use Rattle.records.specs.declared.Onward.{Onward}
+use Rattle.lines.specs.Input.{Inside}
+use Rattle.site.specs.Rooms
+use Rattle.site.specs.Sited.{Sited}
+use Rattle.site.proofs.Judging.{few-states}
+use Rattle.records.specs.Answer.{longest-record}
+use Rattle.records.specs.Turn.{Answers}
 
-pub taking : {block : List ℕ} {input : Input} {block′ column : List ℕ} (line : Line) → Took block input line block′ column → Taking line block′
-taking None t = tt
-taking (Ended n input) t = t .holds .1
-taking (Full input) t = t .holds .0
-taking Failed t = tt
+abbrev answers-room : ℕ
+answers-room = 4096
 
-pub taking-as : (block : List ℕ) {line line′ : Line} → line ≡ line′ → Taking line block → Taking line′ block
-taking-as block e t = subst (λ (l : Line). Taking l block) e t
+-- The columns keep their lengths, and what is used is within the block.
+pub record Going (taken₀ taken column current next block : List ℕ) (input : Input) (used : ℕ) : Type 0 where
+  pub inside : Inside input taken
+  pub taken-length : length taken ≡ length taken₀
+  pub column-length : length column ≡ longest-record + 1
+  pub current-length : length current ≡ words Rooms.states
+  pub next-length : length next ≡ words Rooms.states
+  pub block-length : length block ≡ answers-room
+  pub within : used ≤ length block
 
-pub passes-as : (block block′ : List ℕ) (input : Input) {r r′ : Passed} → r ≡ r′ → Passes block input r block′ → Passes block input r′ block′
-passes-as block block′ input e p = subst (λ (r : Passed). Passes block input r block′) e p
+module _ {taken₀ taken column current next block : List ℕ} {input : Input} {used : ℕ}
+    (g : Going taken₀ taken column current next block input used) where
+  -- The work columns hold a bit for each state.
+  pub long-enough : {text : Text} {h : Handed} → Sited text h → LongEnough (work current next) (h .states)
+  long-enough x =
+      let n = few-states x in
+      record { current = let l = g .current-length in omega arith; next = let l = g .next-length in omega arith }
 
-pub begins-as : (block : List ℕ) {r r′ : Onward} → r ≡ r′ → Begins r block → Begins r′ block
-begins-as block e b = subst (λ (r : Onward). Begins r block) e b
-
-pub roomy-as : (size used : ℕ) (waits : Bool) {r r′ : Room} → r ≡ r′ → Roomy size used waits r → Roomy size used waits r′
-roomy-as size used waits e h = subst (λ (r : Room). Roomy size used waits r) e h
-
--- What the site's enum says.
-pub made-as : {text : Text} {s s′ : Shown} {r r′ : Site} → r ≡ r′ → Made text s (values r) s′ → Made text s (values r′) s′
-made-as {text} {s} {s′} e h = subst (λ (r : Site). Made text s (values r) s′) e h
+  -- What was used stays within the block with an answer after it.
+  pub within-still : {text : Text} {line : Line} {between column′ block′ : List ℕ} {used′ : ℕ} → length block′ ≡ length block
+      → Answers text taken input block used line between column′ block′ used′ → used′ ≤ length block′
+  within-still kept a = let s = a .answered .short in let r = a .room in omega arith

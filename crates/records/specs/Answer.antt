@@ -10,13 +10,10 @@ use Rattle.theory.specs.Record.{automaton, accepted, unfinished, wrong, verdict
 use Rattle.theory.specs.Lines.{verdict-line, refusal-line}
 use Rattle.lines.specs.declared.input.Line.{Line}
 use Rattle.lines.specs.declared.input.Line.the-variants.{None, Ended, Full, Failed}
-use Rattle.lines.specs.Input.{Inside}
 use Rattle.lines.specs.Output.{Put, line-room}
 use Rattle.matcher.specs.declared.Judgement.{Judgement}
 use Rattle.matcher.specs.declared.Judgement.the-variants as judged
 use Rattle.site.specs.Sited.{OfText}
-use Rattle.records.specs.declared.Onward.{Onward}
-use Rattle.records.specs.declared.Onward.the-variants as onward
 
 -- 01, refusal 16: "record line over 4,096 bytes". The code has it as `RECORD`.
 abbrev pub longest-record : ℕ
@@ -46,17 +43,3 @@ line-answer e Failed column = []
 pub record Answered (text : Text) (line : Line) (column before : List ℕ) (used : ℕ) (after : List ℕ) (used′ : ℕ) : Type 0 where
   pub stands : OfText text (λ e. Put (line-answer e line column) before used after used′)
   pub short : used′ ≤ used + line-room
-
--- ---- From line to line
-
--- Where a line ends stands in the block of bytes that are not taken yet.
-abbrev pub Taking : Line → List ℕ → Type 0
-Taking None block = Unit {0}
-Taking (Ended n input) block = Inside input block
-Taking (Full input) block = Inside input block
-Taking Failed block = Unit {0}
-
-abbrev pub Begins : Onward → List ℕ → Type 0
-Begins (onward.To input) block = Inside input block
-Begins onward.End block = Unit {0}
-Begins onward.Failed block = Unit {0}

@@ -1,24 +1,24 @@
-// Reads an expression line, then judges one record per line (01, "Two programs").
+// 01, "Two programs": reads an expression line, then judges one record per line.
 
+mod answers;
+
+use answers::Turn;
 use lines::input::Input;
 use lines::input::Line;
-use lines::input::Passed;
 use lines::output;
-use lines::output::Room;
 use lines::output::Written;
-use matcher::Judgement;
 use site::Site;
 use theory::limit;
-ghost use Prim.Native.Nat.{_+_, _≤_};
-ghost use mathlib.Core.List.{_++_};
+ghost use Prim.Native.Nat.{_≤_};
 ghost use lib.ListN.{length};
+ghost use Rattle.theory.specs.Limit.{longest-text};
 ghost use Rattle.theory.specs.Arcs.{arc-columns};
-ghost use Rattle.theory.specs.Record.{handed, work, LongEnough};
-ghost use Rattle.theory.specs.Lines.{number-and, newline};
-ghost use Rattle.lines.specs.Input.{Inside, Whole};
-ghost use Rattle.lines.specs.Output.{Put, line-room};
+ghost use Rattle.theory.specs.Record.{handed};
+ghost use Rattle.lines.specs.Input.{Inside, line-bytes, Whole};
+ghost use Rattle.lines.specs.Output.{line-room};
+ghost use Rattle.site.specs.Site.{shown};
 ghost use Rattle.site.specs.Sited.{Sited};
-ghost use Rattle.records.specs.Answer.{longest-record, judgement-line, number-room, Answered, Taking, Begins};
+ghost use Rattle.records.specs.Start.{Starts};
 
 // 01, refusal 16: "record line over 4,096 bytes".
 const RECORD: usize = 4096;
@@ -30,98 +30,7 @@ const TAKEN: usize = 65536;
 
 const ANSWERS: usize = 4096;
 
-fn line(block: &mut [u8], used: usize, word: &[u8], n: usize) -> usize
-    requires { ⌜ used + (length (now word) + number-room) ≤ length (now block) ⌝ }
-    ensures { λ r. ⌜ Put (now (word .entry) ++ number-and n newline) (now (block .entry)) used (now (block .exit)) r ⌝ }
-    ensures { λ r. ⌜ r ≤ used + (length (now (word .entry)) + number-room) ⌝ }
-{
-    let said = output::word(block, used, word);
-    output::number(block, said, n, b'\n')
-}
-
-// 01: "prints per record `accepted L`, `unfinished L` (L is live) or `wrong P`".
-fn verdict(block: &mut [u8], used: usize, judgement: Judgement) -> usize
-    requires { ⌜ used + line-room ≤ length (now block) ⌝ }
-    ensures { λ r. ⌜ Put (judgement-line judgement) (now (block .entry)) used (now (block .exit)) r ⌝ }
-    ensures { λ r. ⌜ r ≤ used + line-room ⌝ }
-{
-    match judgement {
-        Judgement::Accepted { live } => line(block, used, b"accepted ", live),
-        Judgement::Unfinished { live } => line(block, used, b"unfinished ", live),
-        Judgement::Wrong { place } => line(block, used, b"wrong ", place),
-        Judgement::Refused { number } => output::refused(block, used, number, 0),
-    }
-}
-
-// A line as it was taken, on the automaton of the text.
-fn answer(
-    text: &[u8],
-    line: Line,
-    column: &[u8],
-    states: usize,
-    accepting: &[u8],
-    arcs: usize,
-    from: &[u16],
-    letter: &[u8],
-    to: &[u16],
-    current: &mut [u64],
-    next: &mut [u64],
-    block: &mut [u8],
-    used: usize,
-) -> usize
-    requires { ⌜ Sited (now text) (handed states (now accepting) arcs (arc-columns (now from) (now letter) (now to))) ⌝ }
-    requires { ⌜ LongEnough (work (now current) (now next)) states ⌝ }
-    requires { ⌜ Whole longest-record line (now column) × (used + line-room ≤ length (now block)) ⌝ }
-    ensures { λ r.
-        ⌜ Answered (now (text .entry)) line (now (column .entry)) (now (block .entry)) used (now (block .exit)) r ⌝ }
-{
-    match line {
-        Line::None => used,
-        Line::Failed => used,
-        Line::Full { input: _ } => output::refused(block, used, theory::refusal::RECORD_LONG, 0),
-        Line::Ended { length, input: _ } => {
-            let judgement = site::verdict(
-                text,
-                states,
-                accepting,
-                arcs,
-                from,
-                letter,
-                to,
-                &column[..length],
-                current,
-                next,
-            );
-            verdict(block, used, judgement)
-        }
-    }
-}
-
-// Where the next line begins.
-enum Onward {
-    To { input: Input },
-    End,
-    Failed,
-}
-
-// After this line, and of one that was too long after its rest.
-fn go_on(taken: &mut [u8], line: Line) -> Onward
-    requires { ⌜ Taking line (now taken) ⌝ }
-    ensures { λ r. ⌜ Begins r (now (taken .exit)) ⌝ }
-{
-    match line {
-        Line::None => Onward::End,
-        Line::Failed => Onward::Failed,
-        Line::Ended { length: _, input } => Onward::To { input },
-        Line::Full { input } => match lines::input::rest(taken, input) {
-            Passed::To { input: after } => Onward::To { input: after },
-            Passed::Failed => Onward::Failed,
-        },
-    }
-}
-
-// The records that are still to come, on the automaton of the text in its columns. What is answered is written out before a read, and so before
-// the end of the input.
+// The records that are still to come.
 fn judge(
     text: &[u8],
     taken: &mut [u8],
@@ -136,6 +45,7 @@ fn judge(
     requires { ⌜ Sited (now text) (handed states (now accepting) arcs (arc-columns (now from) (now letter) (now to))) ⌝ }
     requires { ⌜ Inside input (now taken) ⌝ }
 {
+    // A byte more than a record may have: a longer line fills the column.
     let mut column = [0u8; RECORD + 1];
     let mut current = [0u64; WORDS];
     let mut next = [0u64; WORDS];
@@ -145,20 +55,11 @@ fn judge(
     let mut turns = u64::MAX;
     while turns > 0 {
         turns -= 1;
-        let waits = lines::input::waits(taken, input);
-        let Room::For {
-            used: at,
-            written: _,
-        } = output::with_room(&block, used, waits)
-        else {
-            output::tell_write_failed();
-            return;
-        };
-        let line = lines::input::take_line(taken, input, &mut column);
-        used = answer(
+        match answers::answer_next(
             text,
-            line,
-            &column,
+            taken,
+            input,
+            &mut column,
             states,
             accepting,
             arcs,
@@ -168,47 +69,92 @@ fn judge(
             &mut current,
             &mut next,
             &mut block,
-            at,
-        );
-        match go_on(taken, line) {
-            Onward::To { input: after } => {
+            used,
+        ) {
+            Turn::Next {
+                input: after,
+                used: answered,
+            } => {
                 input = after;
+                used = answered;
             }
-            Onward::End => return,
-            Onward::Failed => {
-                output::write(&block[..used]);
+            Turn::End => return,
+            Turn::ReadFailed { used: answered } => {
+                write_out(&block[..answered]);
                 output::tell_read_failed();
+                return;
+            }
+            Turn::WriteFailed => {
+                output::tell_write_failed();
                 return;
             }
         }
     }
 }
 
-fn refuse(number: u8, place: usize) {
-    let mut block = [0u8; output::LINE];
-    let used = output::refused(&mut block, 0, number, place);
-    if let Written::Failed = output::write(&block[..used]) {
+fn write_out(bytes: &[u8]) {
+    if let Written::Failed = output::write(bytes) {
         output::tell_write_failed();
     }
 }
 
-fn start(text: &[u8], taken: &mut [u8], input: Input)
-    requires { ⌜ Inside input (now taken) ⌝ }
+enum Start {
+    Refused { used: usize },
+    Built { states: usize, arcs: usize },
+}
+
+// From the expression line to the refusal's line or the automaton.
+fn automaton_of(
+    line: Line,
+    column: &[u8],
+    accepting: &mut [u8],
+    from: &mut [u16],
+    letter: &mut [u8],
+    to: &mut [u16],
+    block: &mut [u8],
+) -> Start
+    requires { ⌜ Whole longest-text line (now column) × (line-room ≤ length (now block)) ⌝ }
+    ensures { λ r.
+        ⌜ Starts (line-bytes line (now (column .entry)))
+        (shown (now (accepting .entry)) (now (from .entry)) (now (letter .entry)) (now (to .entry))) (now (block .entry)) r
+        (shown (now (accepting .exit)) (now (from .exit)) (now (letter .exit)) (now (to .exit))) (now (block .exit)) ⌝ }
 {
-    let mut accepting = [0u8; site::STATES];
-    let mut from = [0u16; site::ARCS];
-    let mut letter = [0u8; site::ARCS];
-    let mut to = [0u16; site::ARCS];
-    match site::automaton(text, &mut accepting, &mut from, &mut letter, &mut to) {
-        Site::Refused { number, place } => refuse(number, place),
+    let text = lines::input::bytes(line, column);
+    match site::automaton(text, accepting, from, letter, to) {
+        Site::Refused { number, place } => Start::Refused {
+            used: output::refused(block, 0, number, place),
+        },
         Site::Built {
             entries: _,
             letters: _,
             states,
             expressions: _,
             arcs,
-        } => judge(
-            text,
+        } => Start::Built { states, arcs },
+    }
+}
+
+// 01: "the records program stops there if the expression was refused".
+fn run(line: Line, column: &[u8], taken: &mut [u8], input: Input)
+    requires { ⌜ Whole longest-text line (now column) × Inside input (now taken) ⌝ }
+{
+    let mut accepting = [0u8; site::STATES];
+    let mut from = [0u16; site::ARCS];
+    let mut letter = [0u8; site::ARCS];
+    let mut to = [0u16; site::ARCS];
+    let mut block = [0u8; output::LINE];
+    match automaton_of(
+        line,
+        column,
+        &mut accepting,
+        &mut from,
+        &mut letter,
+        &mut to,
+        &mut block,
+    ) {
+        Start::Refused { used } => write_out(&block[..used]),
+        Start::Built { states, arcs } => judge(
+            lines::input::bytes(line, column),
             taken,
             input,
             states,
@@ -224,11 +170,12 @@ fn start(text: &[u8], taken: &mut [u8], input: Input)
 fn main() {
     let mut taken = [0u8; TAKEN];
     // A byte more than a text may have: of a longer line the reader sees that it is longer.
-    let mut text = [0u8; limit::TEXT + 1];
-    match lines::input::take_line(&mut taken, Input::start(), &mut text) {
-        Line::None => start(b"", &mut taken, Input::start()),
-        Line::Ended { length, input } => start(&text[..length], &mut taken, input),
-        Line::Full { input } => start(&text, &mut taken, input),
+    let mut column = [0u8; limit::TEXT + 1];
+    let line = lines::input::take_line(&mut taken, Input::start(), &mut column);
+    match line {
+        Line::None => run(line, &column, &mut taken, Input::start()),
+        Line::Ended { length: _, input } => run(line, &column, &mut taken, input),
+        Line::Full { input } => run(line, &column, &mut taken, input),
         Line::Failed => output::tell_read_failed(),
     }
 }

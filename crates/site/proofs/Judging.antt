@@ -22,11 +22,17 @@ use Rattle.theory.proofs.Grammar.{unambiguous}
 use Rattle.theory.proofs.Handing.{judged-so, accepted-exactly}
 use Rattle.theory.proofs.Rows.{rows-tree, rows-refused-never}
 use Rattle.theory.proofs.WellFormed.{Lettered, well-formed, tree-lettered}
+use Rattle.site.specs.declared.Site.{Site}
 use Rattle.site.specs.Rooms
 use Rattle.site.specs.Site.{Shown, Answer, needs, site-refusal, answered, holding, left-in, Made}
+use Rattle.site.specs.Values.{values}
 use Rattle.site.specs.Sited.{automaton-in, Sited, OfText, Judges, JudgedOver}
 use Rattle.site.proofs.Fitting.{Fits, fitting}
 use Rattle.site.proofs.Making.{answered-built, answered-refused, left-built}
+
+-- What the site's enum says.
+pub made-as : {text : Text} {s s′ : Shown} {r r′ : Site} → r ≡ r′ → Made text s (values r) s′ → Made text s (values r′) s′
+made-as {text} {s} {s′} e h = subst (λ (r : Site). Made text s (values r) s′) e h
 
 -- ---- What was made without refusal
 

@@ -1,19 +1,11 @@
 -- `list` puts the listing of the text's expression into the block, or the refusal's line.
 use borrow.Author.Needs.{needs}
 use native.Mathlib.Omega.{arith}
-use mathlib.Core.Path.{_≡_, refl, subst}
-use Rattle.theory.specs.Grammar.{Text}
-use Rattle.site.specs.declared.Site.{Site}
-use Rattle.site.specs.Site.{Shown, Made}
-use Rattle.site.specs.Values.{values}
-use Rattle.site.proofs.Judging.{built-from}
+use mathlib.Core.Path.{refl}
+use Rattle.site.proofs.Judging.{made-as, built-from}
 use Rattle.listing.proofs.Printing.{lists-refusal, lists-automaton, few-states, few-arcs, narrow}
 use Rattle.listing.proofs.list.Statement.{statement}
 use Rattle.listing.proofs.list.Tie as tie
-
--- What the site's enum says.
-made-as : {text : Text} {s s′ : Shown} {r r′ : Site} → r ≡ r′ → Made text s (values r) s′ → Made text s (values r′) s′
-made-as {text} {s} {s′} e h = subst (λ (r : Site). Made text s (values r) s′) e h
 
 -- ---- The places: the entry, the call of `automaton`, the case of an automaton, the call of `arcs`
 

@@ -3,9 +3,10 @@ use borrow.Author.Needs.{needs}
 use mathlib.Core.Path.{sym, subst}
 use lib.Seq.{length-take-le}
 use Rattle.theory.specs.Grammar.{Text}
+use Rattle.lines.proofs.Putting.{put-within}
 use Rattle.lines.proofs.Taking.{within-column}
 use Rattle.listing.specs.Listing.{Prints}
-use Rattle.listing.proofs.Printing.{used-within, prints}
+use Rattle.listing.proofs.Printing.{prints}
 use Rattle.listing.proofs.print.Statement.{statement}
 use Rattle.listing.proofs.print.Tie as tie
 
@@ -23,5 +24,5 @@ printed c =
 pub print-spec : {M : Type 1} → statement M
 print-spec =
     tie.close
-    (tie.spec text-asked (λ c. search needs) (λ c κs. search needs) (λ c. used-within (c .before .list .ensures))
-    (λ c. sym (length-take-le _ _ (used-within (listed c .list .ensures)))) (λ c κs. search needs) printed)
+    (tie.spec text-asked (λ c. search needs) (λ c κs. search needs) (λ c. put-within (c .before .list .ensures .put))
+    (λ c. sym (length-take-le _ _ (put-within (listed c .list .ensures .put)))) (λ c κs. search needs) printed)

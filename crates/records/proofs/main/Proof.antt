@@ -1,56 +1,41 @@
--- `main` takes the expression line and starts with it.
+-- `main` takes the expression line, and goes on after it.
 use borrow.Author.Needs.{needs}
-use Prim.Native.Nat.{_≤_}
-use native.Mathlib.Nat.{le-of-lt}
-use lib.ListN.{length}
-use mathlib.Core.Path.{sym}
-use lib.Seq.{length-take-le}
-use Rattle.lines.proofs.Taking.{inside-start, took}
+use Rattle.lines.proofs.Taking.{inside-start, took, whole}
 use Rattle.records.proofs.main.Statement.{statement}
 use Rattle.records.proofs.main.Tie as tie
 
--- ---- The places: the line taken, and by its cases
+-- ---- The places: the call of `take_line`
 
-abbrev line-taken : tie.After-text2 → tie.After-take-line
-line-taken c = c .before .before
-
-abbrev ended-line : tie.After-length → tie.After-take-line
-ended-line c = line-taken (c .before .before)
-
-abbrev full-line : tie.After-input → tie.After-take-line
-full-line c = line-taken (c .before .before)
-
--- A line that ended is shorter than the column.
-short : (c : tie.After-length) → c .length .given .0 .0 ≤ length (ended-line c .take-line .last .1 .1 .0)
-short c = le-of-lt (took (c .length .given .1) (ended-line c .take-line .ensures) .holds .0)
+abbrev taken : tie.After-column2 → tie.After-take-line
+taken c = c .before .before
 
 -- ---- The needs
 
-take-line-requires : tie.Need-take-line-requires
-take-line-requires c κs = inside-start (c .before .start .ensures)
+no-line : tie.Need-run-requires
+no-line c κs =
+    let home = c .before .before .before in
+    let t = taken (home .before .before) .take-line in
+    (whole _ (t .ensures) (t .kept .1 .1 .0), inside-start (c .start2 .ensures))
 
-start-requires-3 : tie.Need-start-requires-3
-start-requires-3 c κs = inside-start (c .start2 .ensures)
+ended : tie.Need-run-requires-2
+ended c κs =
+    let case = c .before .before .before in
+    let t = taken (case .before .before) .take-line in
+    let h = took (case .line .given .1) (t .ensures) in
+    (whole _ h (t .kept .1 .1 .0), h .holds .1)
 
-array-share-prefix-text : tie.Need-array-share-prefix-text
-array-share-prefix-text c = short (c .before)
-
-slice-aggregate-start-3 : tie.Need-slice-aggregate-start-3
-slice-aggregate-start-3 c =
-    let case = c .before .before in sym (length-take-le _ _ (short case))
-
-start-requires-4 : tie.Need-start-requires-4
-start-requires-4 c κs =
-    let case = c .before .before .before in took (case .length .given .1) (ended-line case .take-line .ensures) .holds .1
-
-start-requires-5 : tie.Need-start-requires-5
-start-requires-5 c κs =
-    let case = c .before .before .before in took (case .input .given .1) (full-line case .take-line .ensures) .holds .0
+full : tie.Need-run-requires-3
+full c κs =
+    let case = c .before .before .before in
+    let t = taken (case .before .before) .take-line in
+    let h = took (case .line2 .given .1) (t .ensures) in
+    (whole _ h (t .kept .1 .1 .0), h .holds .0)
 
 pub main-spec : {M : Type 1} → statement M
 main-spec =
     tie.close
-    (tie.spec (λ c. search needs) (λ c κs. search needs) (λ c. search needs) take-line-requires (λ c. search needs) (λ c. search needs)
-    (λ c. search needs) (λ c κs. search needs) start-requires-3 (λ c. search needs) array-share-prefix-text slice-aggregate-start-3
-    (λ c. search needs) start-requires-4 (λ c. search needs) (λ c. search needs) (λ c. search needs) start-requires-5 (λ c. search needs)
-    (λ c κs. search needs) (λ c. search needs) (λ c. search needs) (λ c. search needs) (λ c. search needs))
+    (tie.spec (λ c. search needs) (λ c κs. search needs) (λ c. search needs) (λ c κs. inside-start (c .before .start .ensures))
+    (λ c. search needs) (λ c. search needs) (λ c. search needs) (λ c κs. search needs) no-line
+    (λ c. search needs) (λ c. search needs) (λ c. search needs) ended
+    (λ c. search needs) (λ c. search needs) (λ c. search needs) full
+    (λ c. search needs) (λ c κs. search needs) (λ c. search needs) (λ c. search needs) (λ c. search needs) (λ c. search needs))

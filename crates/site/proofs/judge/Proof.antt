@@ -3,18 +3,11 @@ use borrow.Author.Needs.{needs}
 use mathlib.Core.Path.{_≡_, refl, subst, _∙_}
 use Rattle.theory.specs.Column.{zeros}
 use Rattle.theory.specs.Arcs.{arc-columns}
-use Rattle.theory.specs.Grammar.{Text}
 use Rattle.theory.specs.Record.{work}
-use Rattle.site.specs.declared.Site.{Site}
-use Rattle.site.specs.Site.{Shown, Made}
-use Rattle.site.specs.Values.{values}
+use Rattle.site.proofs.Judging.{made-as}
 use Rattle.site.proofs.Telling.{told-refused, told-settled}
 use Rattle.site.proofs.judge.Statement.{statement}
 use Rattle.site.proofs.judge.Tie as tie
-
--- What the site's enum says.
-made-as : {text : Text} {s s′ : Shown} {r r′ : Site} → r ≡ r′ → Made text s (values r) s′ → Made text s (values r′) s′
-made-as {text} {s} {s′} e h = subst (λ (r : Site). Made text s (values r) s′) e h
 
 -- ---- The places: the call of `automaton`
 

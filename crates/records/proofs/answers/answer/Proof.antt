@@ -7,8 +7,8 @@ use lib.Seq.{length-take-le}
 use Rattle.lines.specs.Input.{Within}
 use Rattle.lines.proofs.Taking.{within-column}
 use Rattle.records.proofs.Answering.{answered-none, answered-failed, answered-long, answered-record}
-use Rattle.records.proofs.answer.Statement.{statement}
-use Rattle.records.proofs.answer.Tie as tie
+use Rattle.records.proofs.answers.answer.Statement.{statement}
+use Rattle.records.proofs.answers.answer.Tie as tie
 
 -- ---- The places: the entry, the case of a record, the call of `site::verdict`
 

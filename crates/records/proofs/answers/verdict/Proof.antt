@@ -2,8 +2,8 @@
 use borrow.Author.Needs.{needs}
 use native.Mathlib.Omega.{arith}
 use Rattle.records.proofs.Answering.{said}
-use Rattle.records.proofs.verdict.Statement.{statement}
-use Rattle.records.proofs.verdict.Tie as tie
+use Rattle.records.proofs.answers.verdict.Statement.{statement}
+use Rattle.records.proofs.answers.verdict.Tie as tie
 
 -- ---- The places: the case of each call
 

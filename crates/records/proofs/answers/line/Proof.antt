@@ -3,8 +3,8 @@ use borrow.Author.Needs.{needs}
 use native.Mathlib.Omega.{arith}
 use Rattle.theory.specs.Lines.{newline}
 use Rattle.lines.proofs.Putting.{put-then, number-short}
-use Rattle.records.proofs.line.Statement.{statement}
-use Rattle.records.proofs.line.Tie as tie
+use Rattle.records.proofs.answers.line.Statement.{statement}
+use Rattle.records.proofs.answers.line.Tie as tie
 
 abbrev start : tie.After-word → tie.After-slice-known
 start c = c .before .before .before
