@@ -1,4 +1,4 @@
-// 01, "Two programs": reads an expression line, then judges one record per line.
+// Reads an expression line, then judges one record per line (01, "Two programs").
 
 mod answers;
 
