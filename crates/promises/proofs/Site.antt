@@ -112,7 +112,8 @@ module _ {text : Text} {s : Shown} where
       ap (λ q. (answered q s) .refusal) (due-once d (written-due w)) ∙ refusal-of e s
       ∙ by-tests e s (even-passes s v) (not-so (over-room e (beside s)) (λ p. n ((over-iff e (beside s)) .0 p)))
 
-nothing-left : (s : Shown) (q : Reading) → ¬ ((answered q s) .refusal .number ≡ 0) → (answered q s ≡ withheld ((answered q s) .refusal)) × (left-in q s ≡ blank s)
+nothing-left : (s : Shown) (q : Reading) → ¬ ((answered q s) .refusal .number ≡ 0)
+    → (answered q s ≡ withheld ((answered q s) .refusal)) × (left-in q s ≡ blank s)
 unfolding answered left-in
 nothing-left s (read e) n =
     let m : ¬ ((site-refusal e s) .number ≡ 0) = λ z. n (ap (λ (r : Refusal). r .number) (refusal-of e s) ∙ z) in
