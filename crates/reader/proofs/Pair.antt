@@ -5,7 +5,6 @@ use native.Mathlib.Nat.{add-assoc}
 use native.Mathlib.Omega.{arith}
 use mathlib.Core.Path.{_≡_, refl, sym, ap, subst, _∙_}
 use mathlib.Core.Logic.{_⊎_, inl, inr}
-use mathlib.Core.Bool.{false}
 use mathlib.Core.List.{List, [], _∷_, _++_}
 use lib.ListN.{length, getD, length-append}
 use lib.Dec.{lit≤}
@@ -14,8 +13,9 @@ use Rattle.theory.specs.Expression.{Expression, Sign, union, concatenation, shu
 use Rattle.theory.specs.Limit.{most-open}
 use Rattle.theory.specs.Refusal.{refusal, not-grammar, too-deep, too-many-entries}
 use Rattle.theory.specs.Table.{Table, Row, entry, kind-of-sign}
-use Rattle.theory.specs.Grammar.{Text, refused, rows, sign-byte, byte-open, byte-close, byte-*, makes-entry}
+use Rattle.theory.specs.Grammar.{Text, refused, rows, byte-open, byte-close, byte-*, makes-entry}
 use Rattle.theory.specs.Scan.{Frame, opened, signed, Stand, before, after, open-at, finish}
+use Rattle.theory.proofs.Grammar.Count.{sign-makes-none}
 use Rattle.theory.proofs.Scan.{at-deep, at-many, at-entry, at-mark, before-opening, after-sign, after-close, after-unsigned, after-unclosed}
 use Rattle.theory.proofs.Rows.Trees.{rows-length, entries-positive}
 use Rattle.columns.specs.declared.Cursor.{Cursor}
@@ -107,12 +107,6 @@ module _ {room : ℕ} {text : Text} {s : Start} {at₀ : ℕ} (i : Inside room t
 
 -- ---- The sign
 
-sign-makes : (g : Sign) → makes-entry (sign-byte g) ≡ false
-unfolding makes-entry sign-byte
-sign-makes union = refl
-sign-makes concatenation = refl
-sign-makes shuffle = refl
-
 pub record Signed (room : ℕ) (text : Text) (s : Start) (kind at made : ℕ) (t : Table) : Type 0 where
   pub sign : Sign
   pub kind-is : kind ≡ kind-of-sign sign
@@ -148,7 +142,7 @@ module _ {room : ℕ} {text : Text} {s : Start} {at made : ℕ} {t : Table} (x :
               y .comes fs e
               ∙ rw next-at
               (at-mark room text at made (after (y .expression) (opened ∷ fs)) (h .1) (before (signed (y .expression) (h .0) ∷ fs))
-              (after-sign (y .expression) (h .0) fs (getD text at 0) (h .2)) (omega arith) (rw (h .2) (sign-makes (h .0))) (y .fits));
+              (after-sign (y .expression) (h .0) fs (getD text at 0) (h .2)) (omega arith) (rw (h .2) (sign-makes-none (h .0))) (y .fits));
           shallow = y .shallow;
           onward = omega arith;
           within = omega arith;

@@ -64,7 +64,7 @@ depth-run s c r = let h = spelled s c r in rw (← (h .1)) (omega (arith, stand-
 
 -- ---- Entries
 
-sign-makes-none : (s : Sign) → makes-entry (sign-byte s) ≡ false
+pub sign-makes-none : (s : Sign) → makes-entry (sign-byte s) ≡ false
 unfolding makes-entry sign-byte
 sign-makes-none union = refl
 sign-makes-none concatenation = refl
