@@ -8,7 +8,7 @@ use mathlib.Core.Bool.{Bool, true, false, cond}
 use mathlib.Core.List.{List, [], _∷_, _++_, List·Memᴰ, List·Memᴰ·head, List·Memᴰ·tail}
 use lib.Dec.{eqb}
 use borrow.Author.Tests.{eq-eqb, ne-eqb}
-use Rattle.theory.specs.Record.{count-below}
+use Rattle.theory.specs.Below.{count-below}
 use Rattle.theory.specs.Table.{times}
 
 unfoldable pub sum-below : ℕ → (ℕ → ℕ) → ℕ

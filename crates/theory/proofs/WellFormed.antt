@@ -15,7 +15,7 @@ use Rattle.theory.specs.Kind
 use Rattle.theory.specs.Limit.{most-entries, last-letter}
 use Rattle.theory.specs.Expression.{Expression, ∅, entries, letters}
 use Rattle.theory.specs.Refusal.{Refusal, refusal, or-else, kind-unknown, field-outside, child-not-smaller, empty-language-inside}
-use Rattle.theory.specs.Record.{count-below}
+use Rattle.theory.specs.Below.{count-below}
 use Rattle.theory.specs.Table.{Table, Row, row, size, tree, tree-at, trees, row-tree, node, Meaning, ∅-kind, ε-kind, letter-kind, sign-kind, star-kind, unknown-kind, meaning, fields-fit, children, row-children, all-smaller, entry-fault, named, naming-fault, table-refusal, SameLengths, Faultless, WellFormed}
 use Rattle.theory.proofs.Meaning.{Numbered, numbered, meaning-is}
 use Rattle.theory.proofs.FirstFault.{none-at}

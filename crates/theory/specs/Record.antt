@@ -12,9 +12,8 @@ use Rattle.theory.specs.Language.{Word}
 use Rattle.theory.specs.Automaton.{Arc, states, accepting, arcs}
 use Rattle.theory.specs.Limit.{most-states, most-arcs}
 use Rattle.theory.specs.Refusal.{Refusal, refusal, success, columns-differ, automaton-malformed, work-short}
-use Rattle.theory.specs.Below.{some-below, all-below}
+use Rattle.theory.specs.Below.{some-below, all-below, count-below}
 use Rattle.theory.specs.Arcs.{ArcColumns, arc-columns, Arcs, counted, even-arcs, start, reached, dead-at}
-unfoldable pub use Rattle.theory.specs.Below.{count-below}
 
 -- 01: "The matcher takes a state count, the accepting column, an arc count, the arc columns".
 pub record Handed : Type 0 where
