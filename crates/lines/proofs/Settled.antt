@@ -11,8 +11,7 @@ use Rattle.theory.specs.Lines.{newline}
 use Rattle.lines.specs.declared.input.Input.{Input}
 use Rattle.lines.specs.declared.input.Line.{Line}
 use Rattle.lines.specs.declared.input.Line.the-variants.{None, Ended, Full, Failed}
-use Rattle.lines.specs.Input.{Inside, untaken, Taken, of-block, of-reads, Unbroken, Took}
-use Rattle.lines.proofs.Taking.{slice-join}
+use Rattle.lines.specs.Input.{Inside, untaken, Unbroken, To-newline, Took}
 
 -- Up to its first newline a text is one list.
 first-newline : (xs us ys vs : List ℕ) → Unbroken xs → Unbroken ys → xs ++ newline ∷ us ≡ ys ++ newline ∷ vs → (xs ≡ ys) × (us ≡ vs)
@@ -38,52 +37,49 @@ pub record Line-of-block (block : List ℕ) (input : Input) (bytes : List ℕ) (
 
 module _ {block : List ℕ} {input : Input} (i : Inside input block) (bytes rest : List ℕ) (u : Unbroken bytes)
     (stands : untaken block input ≡ bytes ++ newline ∷ rest) where
-  -- Not all that is left can be taken without the newline.
-  not-all : {xs : List ℕ} → Unbroken xs → (more : List ℕ) → xs ≡ untaken block input ++ more → ⊥
-  not-all v more e =
-      v (subst (List·Memᴰ newline) (sym (e ∙ ap (λ (x : List ℕ). x ++ more) stands))
-      (Memᴰ·append-left more (Memᴰ·append-right bytes (List·Memᴰ·head refl))))
+  -- A newline is untaken.
+  broken : Unbroken (untaken block input) → ⊥
+  broken v = v (subst (List·Memᴰ newline) (sym stands) (Memᴰ·append-right bytes (List·Memᴰ·head refl)))
 
-  -- What is left after bytes of the block were taken.
-  parts : {xs : List ℕ} (at : ℕ) → input .at ≤ at → at ≤ input .end → xs ≡ slice (input .at) at block
-      → bytes ++ newline ∷ rest ≡ xs ++ slice at (input .end) block
-  parts at o p s =
-      sym stands ∙ sym (slice-join block (input .at) at (input .end) o p (i .within)) ∙ ap (λ (x : List ℕ). x ++ slice at (input .end) block) (sym s)
+  -- What comes after what was untaken comes after the newline.
+  with-more : (came : List ℕ) → untaken block input ++ came ≡ bytes ++ newline ∷ (rest ++ came)
+  with-more came = ap (λ (x : List ℕ). x ++ came) stands ∙ append-assoc bytes (newline ∷ rest) came
 
   module _ {block′ column : List ℕ} where
-    of-line : {n : ℕ} {input′ : Input} → n ≤ length column → Inside input′ block′ → Unbroken (take n column)
-        → Taken block input (take n column ++ (newline ∷ [])) block′ input′ → Line-of-block block input bytes (Ended n input′) block′ column
-    of-line {n} {input′} w j v (of-block e f o s) =
-        let more = slice (input′ .at) (input .end) block in
-        let whole = parts (input′ .at) o (let k = j .ordered in omega arith) s ∙ append-assoc (take n column) (newline ∷ []) more in
-        let same = first-newline bytes rest (take n column) more u v whole .0 in
+    of-line : {n : ℕ} {input′ : Input} → n ≤ length column → Inside input′ block′ → To-newline block input (take n column) block′ input′
+        → Line-of-block block input bytes (Ended n input′) block′ column
+    of-line {n} {input′} w j (v, t) =
+        let split = first-newline bytes (rest ++ t .came) (take n column) (untaken block′ input′) u v
+            (sym (with-more (t .came)) ∙ t .all ∙ append-assoc (take n column) (newline ∷ []) (untaken block′ input′)) in
         let long = length-take-le n column w in
-        let many : n ≡ length bytes = sym long ∙ ap length (sym same) in
-        let taken = ap length s ∙ length-slice (input .at) (input′ .at) block (let k = j .ordered in let m = i .within in omega arith) in
-        let next : input′ .at ≡ input .at + length bytes + 1 = omega (arith, simp length-append at taken) in
-        record {
-          is = λ k. Ended (many k) (record { at = next k; end = f k });
-          kept = e;
-          stored = ap (λ (k : ℕ). take k column) (sym many) ∙ sym same;
-        }
-    of-line {n} {input′} w j v (of-reads earlier p s) =
-        let after = earlier ++ take (input′ .at) block′ in
-        let whole = s ∙ ap (λ (x : List ℕ). x ++ after) stands ∙ append-assoc bytes (newline ∷ rest) after in
-        let none = ap length (first-newline (take n column) [] bytes (rest ++ after) v u whole .1) in
-        let read = length-take-le (input′ .at) block′ (let k = j .ordered in let m = j .within in omega arith) in
-        absurd (omega (arith, simp length-append at none))
-
-    no-room : {input′ : Input} → length bytes < length column → Inside input′ block′ → Unbroken column → Taken block input column block′ input′ → ⊥
-    no-room {input′} l j v (of-block e f o s) =
-        v (newline-within bytes rest column (slice (input′ .at) (input .end) block) l (parts (input′ .at) o (let k = j .ordered in omega arith) s))
-    no-room l j v (of-reads earlier p s) = not-all v _ s
+        let short = ap length (split .0) in
+        let held = ap length stands in
+        elim (t .asked) [
+          | inl k ↦
+              let now = length-slice (input′ .at) (input′ .end) block′ (j .within) in
+              let before = length-slice (input .at) (input .end) block (i .within) in
+              let left = ap length (split .1) in
+              let none = ap length (k .0) in
+              let o = j .ordered in
+              let p = i .ordered in
+              let place : input′ .at ≡ input .at + length bytes + 1 = omega (arith, simp length-append at held, simp length-append at left) in
+              let many : n ≡ length bytes = omega arith in
+              record {
+                is = ap₂ (λ (m : ℕ) (x : Input). Ended m x) many (ap₂ (λ (a z : ℕ). record { at = a; end = z }) place (k .2));
+                kept = k .1;
+                stored = ap (λ (m : ℕ). take m column) (sym many) ∙ sym (split .0);
+              }
+          | inr l ↦ absurd (omega (arith, simp length-append at held, simp length-append at l))
+        ]
 
     pub settled : (line : Line) → length bytes < length column → Took block input line block′ column
         → Line-of-block block input bytes line block′ column
-    settled None l h = absurd (not-all List·Memᴰ·not-nil (h .holds .0) (h .holds .1))
-    settled (Ended n input′) l h = elim (h .holds .3) [
-      | inl t ↦ of-line (let l = h .holds .0 in omega arith) (h .holds .1) (h .holds .2) t
-      | inr t ↦ absurd (not-all (h .holds .2) (t .1 .0) (t .1 .1))
+    settled None l h = absurd (broken (subst Unbroken (sym (h .holds)) List·Memᴰ·not-nil))
+    settled (Ended n input′) l h = elim (h .holds .2) [
+      | inl t ↦ of-line (let k = h .holds .0 in omega arith) (h .holds .1) t
+      | inr t ↦ absurd (broken (λ m. t .1 .0 (subst (List·Memᴰ newline) (t .1 .1 .1) (Memᴰ·append-left (t .1 .1 .0) m))))
     ]
-    settled (Full input′) l h = absurd (no-room l (h .holds .0) (h .holds .1) (h .holds .2))
-    settled Failed l h = absurd (not-all (h .holds .2) (h .holds .3 .0) (h .holds .3 .1))
+    settled (Full input′) l h =
+        let (v, t) = h .holds .1 in
+        absurd (v (newline-within bytes (rest ++ t .came) column (untaken block′ input′) l (sym (with-more (t .came)) ∙ t .all)))
+    settled Failed l h = absurd (broken (h .holds))

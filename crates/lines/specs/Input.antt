@@ -25,17 +25,12 @@ pub record Inside (input : Input) (block : List ℕ) : Type 0 where
 abbrev pub untaken : List ℕ → Input → List ℕ
 untaken block input = slice (input .at) (input .end) block
 
--- The bytes that a call took, and where it leaves the input: all from the block, which then stays as it is; or all that were left there, and
--- after them what reads put into the block, of which the last still stands there and has a byte that was taken.
-pub data Taken (block : List ℕ) (input : Input) (bytes block′ : List ℕ) (input′ : Input) : Type 0 where
-  of-block : block′ ≡ block → input′ .end ≡ input .end → input .at ≤ input′ .at → bytes ≡ slice (input .at) (input′ .at) block
-      → Taken block input bytes block′ input′
-  of-reads : (earlier : List ℕ) → 0 < input′ .at → bytes ≡ untaken block input ++ (earlier ++ take (input′ .at) block′)
-      → Taken block input bytes block′ input′
-
--- The bytes are all that were left in the block and all that reads put there after them; no more came.
-abbrev pub All-taken : List ℕ → Input → List ℕ → Type 0
-All-taken block input bytes = (earlier : List ℕ) × (bytes ≡ untaken block input ++ earlier)
+-- The bytes that a call took, and where it leaves the input: what was untaken, and after it what came by reads, is what was taken, and after it
+-- what is untaken now. Nothing comes, and the block and its end stay as they are, unless more is taken than stood there.
+pub record Taken (block : List ℕ) (input : Input) (bytes block′ : List ℕ) (input′ : Input) : Type 0 where
+  pub came : List ℕ
+  pub all : untaken block input ++ came ≡ bytes ++ untaken block′ input′
+  pub asked : ((came ≡ []) × (block′ ≡ block) × (input′ .end ≡ input .end)) ⊎ (length (untaken block input) < length bytes)
 
 abbrev pub Nexts : List ℕ → Input → Next → List ℕ → Type 0
 Nexts block input (next.Byte b input′) block′ = Inside input′ block′ × Taken block input (b ∷ []) block′ input′
@@ -50,23 +45,37 @@ abbrev pub Waits : List ℕ → Input → Bool → Type 0
 Waits block input true = Unbroken (untaken block input)
 Waits block input false = List·Memᴰ newline (untaken block input)
 
--- 01: "A last line without newline counts if it has a byte". The line stands in the column; its newline is taken and not stored.
-abbrev pub Holds : List ℕ → Input → Line → List ℕ → List ℕ → Type 0
-Holds block input None block′ column = All-taken block input []
-Holds block input (Ended n input′) block′ column =
-    (n < length column) × Inside input′ block′ × Unbroken (take n column)
-    × (Taken block input (take n column ++ (newline ∷ [])) block′ input′
-    ⊎ ((0 < n) × All-taken block input (take n column) × (input′ .at ≡ input′ .end)))
-Holds block input (Full input′) block′ column = Inside input′ block′ × Unbroken column × Taken block input column block′ input′
-Holds block input Failed block′ column =
-    (n : ℕ) × (n < length column) × Unbroken (take n column) × All-taken block input (take n column)
+-- The bytes up to the next newline, which is taken too.
+abbrev pub To-newline : List ℕ → Input → List ℕ → List ℕ → Input → Type 0
+To-newline block input bytes block′ input′ = Unbroken bytes × Taken block input (bytes ++ (newline ∷ [])) block′ input′
+
+-- All bytes that are untaken or come, up to the end of the input.
+abbrev pub To-end : List ℕ → Input → List ℕ → List ℕ → Input → Type 0
+To-end block input bytes block′ input′ =
+    Unbroken bytes × ((came : List ℕ) × (untaken block input ++ came ≡ bytes)) × (untaken block′ input′ ≡ [])
+
+-- The bytes of the next line. 01: "A last line without newline counts if it has a byte".
+abbrev pub Comes : List ℕ → Input → List ℕ → List ℕ → Input → Type 0
+Comes block input bytes block′ input′ = To-newline block input bytes block′ input′ ⊎ ((0 < length bytes) × To-end block input bytes block′ input′)
+
+-- A line as it is stored in the column, where `Over` is said of one that fills it. A read fails only where no newline is left in the block.
+abbrev pub Holds : (Input → Type 0) → List ℕ → Input → Line → List ℕ → List ℕ → Type 0
+Holds Over block input None block′ column = untaken block input ≡ []
+Holds Over block input (Ended n input′) block′ column = (n < length column) × Inside input′ block′ × Comes block input (take n column) block′ input′
+Holds Over block input (Full input′) block′ column = Inside input′ block′ × Over input′
+Holds Over block input Failed block′ column = Unbroken (untaken block input)
 
 -- The answer where the input ends after n bytes of a line.
 abbrev pub last : ℕ → Input → Line
 last n input = cond (eqb n 0) None (Ended n input)
 
+-- What `take_line` owes: of a line that fills the column no newline has come yet.
 pub record Took (block : List ℕ) (input : Input) (line : Line) (block′ column : List ℕ) : Type 0 where
-  pub holds : Holds block input line block′ column
+  pub holds : Holds (λ input′. Unbroken column × Taken block input column block′ input′) block input line block′ column
+
+-- What `next_line` owes: of a line that fills the column more may have come, up to its end.
+pub record TookWhole (block : List ℕ) (input : Input) (line : Line) (block′ column : List ℕ) : Type 0 where
+  pub holds : Holds (λ input′. (more : List ℕ) × Comes block input (column ++ more) block′ input′) block input line block′ column
 
 -- The bytes of a line as it was taken. One that filled the column has more.
 abbrev pub line-bytes : Line → List ℕ → List ℕ
@@ -86,15 +95,8 @@ pub record Whole (most : ℕ) (line : Line) (column : List ℕ) : Type 0 where
   pub room : length column ≡ most + 1
   pub within : Within most line
 
--- More bytes than a line has: a proved loop has to end, and nothing says that a line does.
-abbrev pub most-bytes : ℕ
-most-bytes = 18446744073709551615
-
--- The rest of a line is passed over, with its newline.
+-- The rest of a line is passed over, with its newline. A read fails only where no newline is left in the block.
 abbrev pub Passes : List ℕ → Input → Passed → List ℕ → Type 0
 Passes block input (rest.To input′) block′ =
-    Inside input′ block′
-    × ((bytes : List ℕ) × Unbroken bytes
-    × (Taken block input (bytes ++ (newline ∷ [])) block′ input′
-    ⊎ ((All-taken block input bytes × (input′ .at ≡ input′ .end)) ⊎ (Taken block input bytes block′ input′ × (most-bytes ≤ length bytes)))))
-Passes block input rest.Failed block′ = (bytes : List ℕ) × Unbroken bytes × All-taken block input bytes
+    Inside input′ block′ × ((bytes : List ℕ) × (To-newline block input bytes block′ input′ ⊎ To-end block input bytes block′ input′))
+Passes block input rest.Failed block′ = Unbroken (untaken block input)

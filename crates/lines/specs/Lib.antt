@@ -1,2 +1,3 @@
 pub mod Input
 pub mod Output
+pub mod Turn

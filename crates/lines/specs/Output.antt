@@ -2,6 +2,7 @@
 use Prim.Native.Nat.{ℕ, _+_, _≤_}
 use mathlib.Core.Path.{_≡_}
 use mathlib.Core.Bool.{Bool, true}
+use mathlib.Core.Logic.{_⊎_}
 use mathlib.Core.List.{List, _++_}
 use lib.ListN.{length, take}
 use Rattle.lines.specs.declared.output.Written.{Written}
@@ -24,7 +25,8 @@ abbrev pub Wrote : ℕ → Written → Type 0
 Wrote n (written.All count) = count ≡ n
 Wrote n written.Failed = Unit {0}
 
--- A line fits after what is used then. What was used before is written or used still, and none of it is used where the caller waits.
+-- A line fits after what is used then. What was used before is used still or is written, whole, and it is written where the caller waits.
 abbrev pub Roomy : (size used : ℕ) → Bool → Room → Type 0
-Roomy size used waits (room.For used′ count) = (used′ + line-room ≤ size) × (count + used′ ≡ used) × (waits ≡ true → used′ ≡ 0)
+Roomy size used waits (room.For used′ count) =
+    (used′ + line-room ≤ size) × (((used′ ≡ used) × (count ≡ 0)) ⊎ ((used′ ≡ 0) × (count ≡ used))) × (waits ≡ true → used′ ≡ 0)
 Roomy size used waits room.Failed = Unit {0}

@@ -1,8 +1,9 @@
 // Lines of standard input. 01: they end at a newline; "A last line without newline counts if it has a byte".
 
+ghost use Prim.Native.Nat.{_<_};
 ghost use mathlib.Core.Path.{_≡_};
 ghost use lib.ListN.{length};
-ghost use Rattle.lines.specs.Input.{Inside, Nexts, Waits, last, Took, Within, line-bytes, Passes};
+ghost use Rattle.lines.specs.Input.{Inside, Nexts, Waits, last, Took, TookWhole, Within, line-bytes, Passes};
 
 // The bytes of the lent block from `at` to `end` are read and not yet taken. A block of one byte takes nothing after a newline.
 pub struct Input {
@@ -24,7 +25,7 @@ pub enum Line {
     Failed,
 }
 
-pub enum Passed {
+enum Passed {
     To { input: Input },
     Failed,
 }
@@ -129,7 +130,7 @@ pub fn bytes(line: Line, column: &[u8]) -> &[u8]
 }
 
 // After the rest of a line. A proved loop has to end, and nothing says that a line does: the turns are more than a run has.
-pub fn rest(block: &mut [u8], input: Input) -> Passed
+fn rest(block: &mut [u8], input: Input) -> Passed
     requires { ⌜ Inside input (now block) ⌝ }
     ensures { λ r. ⌜ Passes (now (block .entry)) input r (now (block .exit)) ⌝ }
 {
@@ -148,5 +149,22 @@ pub fn rest(block: &mut [u8], input: Input) -> Passed
             }
         }
     }
-    Passed::To { input }
+    Passed::Failed
+}
+
+// The next line to its end: of one that fills the column the rest is passed over.
+pub fn next_line(block: &mut [u8], input: Input, column: &mut [u8]) -> Line
+    requires { ⌜ Inside input (now block) × (0 < length (now column)) ⌝ }
+    ensures { λ r. ⌜ TookWhole (now (block .entry)) input r (now (block .exit)) (now (column .exit)) ⌝ }
+{
+    let line = take_line(block, input, column);
+    match line {
+        Line::None => line,
+        Line::Ended { length: _, input: _ } => line,
+        Line::Failed => line,
+        Line::Full { input: so_far } => match rest(block, so_far) {
+            Passed::To { input: after } => Line::Full { input: after },
+            Passed::Failed => Line::Failed,
+        },
+    }
 }

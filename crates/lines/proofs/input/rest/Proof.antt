@@ -41,27 +41,27 @@ byte-taken c = subst (owes (of-byte c)) (c .before .byte .given .1) (of-byte c .
 failed : tie.Need-returns Inv-loop μ-loop
 failed c =
     let k = called (c .before .before) in
-    rest-failed (start (turn k) .pre) (turn k .loop .inv) (k .take-byte .last .0) (subst (owes k) (c .enum-told .given .1) (k .take-byte .ensures))
+    rest-failed (turn k .loop .inv) (k .take-byte .last .0) (subst (owes k) (c .enum-told .given .1) (k .take-byte .ensures))
 
 ended : tie.Need-returns-2 Inv-loop μ-loop
 ended c =
     let k = called (c .before .before) in
-    rest-last (start (turn k) .pre) (turn k .loop .inv) (k .take-byte .kept .0) (subst (owes k) (c .enum-told2 .given .1) (k .take-byte .ensures))
+    rest-last (turn k .loop .inv) (k .take-byte .kept .0) (subst (owes k) (c .enum-told2 .given .1) (k .take-byte .ensures))
 
 newline : tie.Need-returns-3 Inv-loop μ-loop
 newline c =
     let k = of-byte (c .before) in
     let next = byte-taken (c .before) in
-    rest-ended (start (turn k) .pre) (turn k .loop .inv) (next .0) (next .1) (c .if1 .taken)
+    rest-ended (turn k .loop .inv) (next .0) (next .1) (c .if1 .taken)
 
 loop-again : tie.Need-loop-again Inv-loop μ-loop
 loop-again c =
     let k = of-byte (c .before) in
     let next = byte-taken (c .before) in
-    passing-byte (start (turn k) .pre) (turn k .loop .inv) (next .0) (next .1) (k .take-byte .kept .0) (k .before .before .loop-test .taken) (c .if1 .left)
+    passing-byte (turn k .loop .inv) (next .0) (next .1) (k .take-byte .kept .0) (k .before .before .loop-test .taken) (c .if1 .left)
 
 endless : tie.Need-returns-4 Inv-loop μ-loop
-endless c = rest-endless (start (c .before) .pre) (c .before .loop .inv) (omega arith)
+endless c = rest-endless (c .before .loop .inv) (omega arith) (start (c .before) .pre) (search needs)
 
 pub rest-spec : {M : Type 1} → statement M
 rest-spec =

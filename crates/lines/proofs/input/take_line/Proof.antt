@@ -17,10 +17,7 @@ Inv-loop block₀ column₀ input₀ length₀ block column input length = Store
 abbrev μ-loop : tie.MeasureT-loop
 μ-loop block₀ column₀ input₀ length₀ block column input length = list.length column₀ - length
 
--- ---- The places: the entry, the loop's head, the call of `take_byte`
-
-abbrev start : tie.At-loop Inv-loop μ-loop → tie.Start Inv-loop μ-loop
-start c = c .before .before .before
+-- ---- The places: the loop's head, the call of `take_byte`
 
 abbrev turn : tie.After-take-byte Inv-loop μ-loop → tie.At-loop Inv-loop μ-loop
 turn c = c .before .before .before
@@ -44,29 +41,28 @@ failed : tie.Need-returns Inv-loop μ-loop
 failed c =
     let k = called (c .before .before) in
     let used-up = subst (owes k) (c .enum-told .given .1) (k .take-byte .ensures) in
-    line-failed (start (turn k) .pre) (turn k .loop .inv) (k .take-byte .kept .0) used-up (omega (arith, k .before .before .loop-test .taken))
+    line-failed (turn k .loop .inv) used-up
 
 ended : tie.Need-returns-2 Inv-loop μ-loop
 ended c =
     let k = called (c .before .before .before) in
     let used-up = subst (owes k) (c .before .enum-told2 .given .1) (k .take-byte .ensures) in
-    line-last (start (turn k) .pre) (turn k .loop .inv) (k .take-byte .kept .0) used-up (omega (arith, k .before .before .loop-test .taken))
-    (c .last-line .ensures)
+    line-last (turn k .loop .inv) used-up (omega (arith, k .before .before .loop-test .taken)) (k .take-byte .kept .0) (c .last-line .ensures)
 
 newline : tie.Need-returns-3 Inv-loop μ-loop
 newline c =
     let k = of-byte (c .before) in
     let next = byte-taken (c .before) in
-    line-ended (start (turn k) .pre) (turn k .loop .inv) (next .0) (next .1) (omega (arith, k .before .before .loop-test .taken)) (c .if1 .taken)
+    line-ended (turn k .loop .inv) (next .0) (next .1) (omega (arith, k .before .before .loop-test .taken)) (c .if1 .taken)
 
 loop-again : tie.Need-loop-again Inv-loop μ-loop
 loop-again c =
     let k = of-byte (c .before) in
     let next = byte-taken (c .before) in
-    stored-byte (start (turn k) .pre) (turn k .loop .inv) (next .0) (next .1) (k .take-byte .kept .0) (k .before .before .loop-test .taken) (c .if1 .left)
+    stored-byte (turn k .loop .inv) (next .0) (next .1) (k .take-byte .kept .0) (k .before .before .loop-test .taken) (c .if1 .left)
 
 full : tie.Need-returns-4 Inv-loop μ-loop
-full c = line-full (start (c .before) .pre) (c .before .loop .inv) (omega arith)
+full c = line-full (c .before .loop .inv) (omega arith)
 
 pub take-line-spec : {M : Type 1} → statement M
 take-line-spec =

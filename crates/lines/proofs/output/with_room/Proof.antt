@@ -5,6 +5,7 @@ use native.Mathlib.Omega.{arith}
 use borrow.Author.Tests.{ltb-false}
 use mathlib.Core.Path.{refl, sym, subst, _∙_}
 use mathlib.Core.Bool.{false≢true}
+use mathlib.Core.Logic.{inl, inr}
 use lib.ListN.{length}
 use lib.Seq.{length-take-le}
 use Rattle.theory.proofs.Tests.{or-left, or-right}
@@ -23,14 +24,14 @@ cleared c =
     let w = c .before .before .before in
     let s = start (w .before) in
     let all = subst (Wrote _) (c .before .count .given .1) (w .write .ensures) ∙ length-take-le _ _ (s .pre .0) in
-    (omega (arith, s .pre .1), omega arith, λ _. refl)
+    (omega (arith, s .pre .1), inr (refl, all), λ _. refl)
 
 left : tie.Need-returns-3
 left c =
     let s = c .before .before in
     let free = length (s .args .block .now) - s .args .used in (
       let l = ltb-false free line-room (or-right (s .args .waits) _ (c .if1 .left)) in omega (arith, s .pre .0),
-      omega arith,
+      inl (refl, refl),
       λ w. absurd (false≢true (sym (or-left _ _ (c .if1 .left)) ∙ w)),
     )
 
