@@ -17,7 +17,7 @@ use Rattle.lines.specs.declared.input.Line.{Line}
 use Rattle.lines.specs.declared.input.Line.the-variants.{None, Ended, Full, Failed}
 use Rattle.lines.specs.declared.input.Passed.the-variants.{To}
 use Rattle.lines.specs.declared.input.Passed.the-variants as rest
-use Rattle.lines.specs.Input.{Inside, untaken, Taken, Unbroken, To-newline, To-end, Comes, last, Took, TookWhole, Within, Whole, Passes}
+use Rattle.lines.specs.Input.{Inside, untaken, Taken, Unbroken, last, Took, Passes}
 
 -- ---- Parts of a block
 
@@ -75,7 +75,7 @@ taken-read {block} {block′} {input} {end} l i p q =
 
 module _ {block : List ℕ} {input : Input} {bytes between : List ℕ} {input₁ : Input} (t : Taken block input bytes between input₁) where
   -- What comes then comes after what came before.
-  after : (came : List ℕ) {more : List ℕ} → untaken between input₁ ++ came ≡ more → untaken block input ++ (t .came ++ came) ≡ bytes ++ more
+  pub after : (came : List ℕ) {more : List ℕ} → untaken between input₁ ++ came ≡ more → untaken block input ++ (t .came ++ came) ≡ bytes ++ more
   after came e =
       sym (append-assoc (untaken block input) (t .came) came) ∙ ap (λ (x : List ℕ). x ++ came) (t .all)
       ∙ append-assoc bytes (untaken between input₁) came ∙ ap (λ (x : List ℕ). bytes ++ x) e
@@ -114,7 +114,7 @@ module _ {block : List ℕ} {input : Input} {bytes between : List ℕ} {input₁
       in-longer (x ∷ xs) us (y ∷ ys) vs l e (List·Memᴰ·tail q) =
           let rest : xs ++ us ≡ ys ++ vs = cc in List·Memᴰ·tail (in-longer xs us ys vs (omega arith) rest q)
 
-unbroken-joined : {xs ys : List ℕ} → Unbroken xs → Unbroken ys → Unbroken (xs ++ ys)
+pub unbroken-joined : {xs ys : List ℕ} → Unbroken xs → Unbroken ys → Unbroken (xs ++ ys)
 unbroken-joined {xs} u v m = ⊎-elim u v (List·Memᴰ·append-cases xs m)
 
 no-bytes : (xs : List ℕ) → length xs ≡ 0 → xs ≡ []
@@ -271,54 +271,3 @@ module _ {block₀ block : List ℕ} {input₀ input : Input} {turns : ℕ} (s :
       let k = s .counted in
       let n = length-slice (input₀ .at) (input₀ .end) block₀ w in
       unbroken-all (s .taken) (s .unbroken) (omega arith)
-
--- ---- A line and its rest
-
-pub took : {block : List ℕ} {input : Input} {r r′ : Line} {block′ column : List ℕ} → r ≡ r′ → Took block input r block′ column
-    → Took block input r′ block′ column
-took {block} {input} {block′ = block′} {column = column} e h = subst (λ (l : Line). Took block input l block′ column) e h
-
-whole-of : {block : List ℕ} {input : Input} {column between : List ℕ} {input₁ : Input} {bytes block′ : List ℕ} {input′ : Input}
-    → 0 < length column → Unbroken column → Taken block input column between input₁
-    → To-newline between input₁ bytes block′ input′ ⊎ To-end between input₁ bytes block′ input′ → Comes block input (column ++ bytes) block′ input′
-whole-of {block} {input} {column} {bytes = bytes} {block′} {input′} l u t (inl p) =
-    inl (
-      unbroken-joined u (p .0),
-      subst (λ (x : List ℕ). Taken block input x block′ input′) (sym (append-assoc column bytes (newline ∷ []))) (taken-then t (p .1)),
-    )
-whole-of {column = column} {bytes = bytes} l u t (inr p) =
-    inr (omega (arith, length-append column bytes), (unbroken-joined u (p .0), (_, after t (p .1 .0) (p .1 .1)), p .2))
-
-module _ {block : List ℕ} {input : Input} {between column : List ℕ} where
-  -- A line that does not fill the column is taken to its end.
-  pub as-none : {line : Line} → line ≡ None → Took block input line between column → TookWhole block input line between column
-  as-none e t = subst (λ (l : Line). TookWhole block input l between column) (sym e) (record { holds = took e t .holds })
-
-  pub as-ended : {line : Line} {n : ℕ} {input₁ : Input} → line ≡ Ended n input₁ → Took block input line between column
-      → TookWhole block input line between column
-  as-ended e t = subst (λ (l : Line). TookWhole block input l between column) (sym e) (record { holds = took e t .holds })
-
-  pub as-failed : {line : Line} → line ≡ Failed → Took block input line between column → TookWhole block input line between column
-  as-failed e t = subst (λ (l : Line). TookWhole block input l between column) (sym e) (record { holds = took e t .holds })
-
-  module _ {input₁ : Input} (t : Took block input (Full input₁) between column) {block′ : List ℕ} where
-    pub with-rest : {input′ : Input} → 0 < length column → Passes between input₁ (To input′) block′ → TookWhole block input (Full input′) block′ column
-    with-rest l p = record { holds = (p .0, (p .1 .0, whole-of l (t .holds .1 .0) (t .holds .1 .1) (p .1 .1))) }
-
-    pub without-rest : Passes between input₁ rest.Failed block′ → TookWhole block input Failed block′ column
-    without-rest p = record { holds = unbroken-before (t .holds .1 .1) (t .holds .1 .0) p }
-
--- ---- What a caller may rely on
-
-pub whole : {block : List ℕ} {input : Input} {block′ column : List ℕ} {most : ℕ} (line : Line) → Took block input line block′ column
-    → length column ≡ most + 1 → Whole most line column
-whole None h e = record { room = e; within = tt }
-whole (Ended n input) h e = record { room = e; within = let l = h .holds .0 in omega arith }
-whole (Full input) h e = record { room = e; within = tt }
-whole Failed h e = record { room = e; within = tt }
-
-pub within-column : {most : ℕ} {column : List ℕ} (line : Line) → Whole most line column → Within (length column) line
-within-column None h = tt
-within-column (Ended n input) h = let e = h .room in let l = h .within in omega arith
-within-column (Full input) h = tt
-within-column Failed h = tt

@@ -69,13 +69,17 @@ Holds Over block input Failed block′ column = Unbroken (untaken block input)
 abbrev pub last : ℕ → Input → Line
 last n input = cond (eqb n 0) None (Ended n input)
 
+pub record Stores (Over : Input → Type 0) (block : List ℕ) (input : Input) (line : Line) (block′ column : List ℕ) : Type 0 where
+  pub holds : Holds Over block input line block′ column
+
 -- What `take_line` owes: of a line that fills the column no newline has come yet.
-pub record Took (block : List ℕ) (input : Input) (line : Line) (block′ column : List ℕ) : Type 0 where
-  pub holds : Holds (λ input′. Unbroken column × Taken block input column block′ input′) block input line block′ column
+abbrev pub Took : List ℕ → Input → Line → List ℕ → List ℕ → Type 0
+Took block input line block′ column = Stores (λ input′. Unbroken column × Taken block input column block′ input′) block input line block′ column
 
 -- What `next_line` owes: of a line that fills the column more may have come, up to its end.
-pub record TookWhole (block : List ℕ) (input : Input) (line : Line) (block′ column : List ℕ) : Type 0 where
-  pub holds : Holds (λ input′. (more : List ℕ) × Comes block input (column ++ more) block′ input′) block input line block′ column
+abbrev pub TookWhole : List ℕ → Input → Line → List ℕ → List ℕ → Type 0
+TookWhole block input line block′ column =
+    Stores (λ input′. (more : List ℕ) × Comes block input (column ++ more) block′ input′) block input line block′ column
 
 -- The bytes of a line as it was taken. One that filled the column has more.
 abbrev pub line-bytes : Line → List ℕ → List ℕ

@@ -1,19 +1,17 @@
 -- Between two turns of the records program.
 use Prim.Native.Nat.{ℕ, _+_, _≤_}
 use native.Mathlib.Omega.{arith}
-use mathlib.Core.Path.{_≡_, refl, _∙_}
+use mathlib.Core.Path.{_≡_}
 use mathlib.Core.List.{List}
 use lib.ListN.{length}
 use Rattle.theory.specs.Grammar.{Text}
 use Rattle.theory.specs.Record.{Handed, work, words, LongEnough}
 use Rattle.lines.specs.declared.input.Input.{Input}
-use Rattle.lines.specs.declared.input.Line.{Line}
 use Rattle.lines.specs.Input.{Inside}
 use Rattle.site.specs.Rooms
 use Rattle.site.specs.Sited.{Sited}
 use Rattle.site.proofs.Judging.{few-states}
 use Rattle.records.specs.Answer.{longest-record}
-use Rattle.records.specs.Turn.{Answers}
 
 abbrev answers-room : ℕ
 answers-room = 4096
@@ -35,8 +33,3 @@ module _ {taken₀ taken column current next block : List ℕ} {input : Input} {
   long-enough x =
       let n = few-states x in
       record { current = let l = g .current-length in omega arith; next = let l = g .next-length in omega arith }
-
-  -- What was used stays within the block with an answer after it.
-  pub within-still : {text : Text} {line : Line} {between column′ block′ : List ℕ} {used′ : ℕ} → length block′ ≡ length block
-      → Answers text taken input block used line between column′ block′ used′ → used′ ≤ length block′
-  within-still kept a = let s = a .answered .short in let r = a .room in omega arith

@@ -2,9 +2,8 @@
 
 use lines::input::Input;
 use lines::input::Line;
-use lines::input::Passed;
 use lines::output;
-use lines::output::Room;
+use lines::turn::Asked;
 use matcher::Judgement;
 ghost use Prim.Native.Nat.{_+_, _≤_};
 ghost use mathlib.Core.Path.{_≡_};
@@ -89,11 +88,11 @@ fn answer(
 pub enum Turn {
     Next { input: Input, used: usize },
     End,
-    ReadFailed { used: usize },
+    ReadFailed,
     WriteFailed,
 }
 
-// The next line and its answer. What is answered is written out before a read, and so before the end of the input.
+// The next line and its answer.
 pub fn answer_next(
     text: &[u8],
     taken: &mut [u8],
@@ -117,14 +116,9 @@ pub fn answer_next(
     ensures { λ r.
         ⌜ Turned (now (text .entry)) (now (taken .entry)) input (now (block .entry)) used r (now (taken .exit)) (now (column .exit)) (now (block .exit)) ⌝ }
 {
-    let waits = lines::input::waits(taken, input);
-    match output::with_room(block, used, waits) {
-        Room::Failed => Turn::WriteFailed,
-        Room::For {
-            used: at,
-            written: _,
-        } => {
-            let line = lines::input::take_line(taken, input, column);
+    match lines::turn::ask(taken, input, column, block, used) {
+        Asked::WriteFailed => Turn::WriteFailed,
+        Asked::Line { line, used: left } => {
             let answered = answer(
                 text,
                 line,
@@ -138,11 +132,11 @@ pub fn answer_next(
                 current,
                 next,
                 block,
-                at,
+                left,
             );
             match line {
                 Line::None => Turn::End,
-                Line::Failed => Turn::ReadFailed { used: answered },
+                Line::Failed => Turn::ReadFailed,
                 Line::Ended {
                     length: _,
                     input: after,
@@ -150,12 +144,9 @@ pub fn answer_next(
                     input: after,
                     used: answered,
                 },
-                Line::Full { input: so_far } => match lines::input::rest(taken, so_far) {
-                    Passed::To { input: after } => Turn::Next {
-                        input: after,
-                        used: answered,
-                    },
-                    Passed::Failed => Turn::ReadFailed { used: answered },
+                Line::Full { input: after } => Turn::Next {
+                    input: after,
+                    used: answered,
                 },
             }
         }

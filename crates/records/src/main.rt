@@ -79,8 +79,7 @@ fn judge(
                 used = answered;
             }
             Turn::End => return,
-            Turn::ReadFailed { used: answered } => {
-                write_out(&block[..answered]);
+            Turn::ReadFailed => {
                 output::tell_read_failed();
                 return;
             }

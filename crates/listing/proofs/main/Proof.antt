@@ -1,6 +1,7 @@
 -- `main` takes a line and prints the answer to it.
 use borrow.Author.Needs.{needs}
-use Rattle.lines.proofs.Taking.{inside-start, whole}
+use Rattle.lines.proofs.Taking.{inside-start}
+use Rattle.lines.proofs.WholeLine.{whole}
 use Rattle.listing.proofs.main.Statement.{statement}
 use Rattle.listing.proofs.main.Tie as tie
 

@@ -4,7 +4,7 @@ use mathlib.Core.Path.{sym, subst}
 use lib.Seq.{length-take-le}
 use Rattle.theory.specs.Grammar.{Text}
 use Rattle.lines.proofs.Putting.{put-within}
-use Rattle.lines.proofs.Taking.{within-column}
+use Rattle.lines.proofs.WholeLine.{within-column}
 use Rattle.listing.specs.Listing.{Prints}
 use Rattle.listing.proofs.Printing.{prints}
 use Rattle.listing.proofs.print.Statement.{statement}

@@ -1,7 +1,7 @@
 -- `automaton_of` has the site make what the line's bytes write.
 use borrow.Author.Needs.{needs}
 use mathlib.Core.Path.{refl}
-use Rattle.lines.proofs.Taking.{within-column}
+use Rattle.lines.proofs.WholeLine.{within-column}
 use Rattle.site.proofs.Judging.{built-from, sited}
 use Rattle.records.proofs.Starting.{made-of}
 use Rattle.records.proofs.automaton_of.Statement.{statement}

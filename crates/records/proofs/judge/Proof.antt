@@ -1,10 +1,9 @@
 -- `judge` answers one line after the other, and ends. The measure is the number of turns that are left.
 use borrow.Author.Needs.{needs}
 use native.Mathlib.Omega.{arith}
-use mathlib.Core.Path.{_≡_, refl, sym, _∙_, subst}
-use lib.Seq.{length-take-le}
-use Rattle.records.proofs.Going.{Going, long-enough, within-still}
-use Rattle.records.proofs.Turning.{turned-as}
+use mathlib.Core.Path.{refl, _∙_}
+use Rattle.records.proofs.Going.{Going, long-enough}
+use Rattle.records.proofs.Turning.{turned-as, within-still, inside-still}
 use Rattle.records.proofs.judge.Statement.{statement}
 use Rattle.records.proofs.judge.Tie as tie
 
@@ -64,27 +63,18 @@ loop-again c =
     let lent = automaton .1 .1 .1 .1 .1 .1 in
     let t = turned-as (c .before .after .given .1) (k .answer-next .ensures) .turns in
     record {
-      inside = t .4;
+      inside = inside-still (t .0) (t .1) (t .2);
       taken-length = kept .0 ∙ g .taken-length;
       column-length = kept .1 .1 .0 ∙ g .column-length;
       current-length = lent .0 ∙ g .current-length;
       next-length = lent .1 .0 ∙ g .next-length;
       block-length = lent .1 .1 .0 ∙ g .block-length;
-      within = within-still g (lent .1 .1 .0) (t .2);
+      within = within-still (lent .1 .1 .0) (t .1);
     }
-
--- What is written out after a read that failed.
-answered : tie.Need-array-share-prefix-block Inv-loop μ-loop
-answered c =
-    let k = called (c .before .before .before) in
-    let lent = k .answer-next .kept .1 .1 .1 .1 .1 .1 .1 .1 .1 .1 in
-    within-still (turn (k .before) .loop .inv) (lent .1 .1 .0) (turned-as (c .before .answered .given .1) (k .answer-next .ensures) .turns .2)
 
 pub judge-spec : {M : Type 1} → statement M
 judge-spec =
     tie.close
     (tie.spec Inv-loop μ-loop loop-holds (λ c. search needs) (λ c. search needs) (λ c. search needs) (λ c. search needs) (λ c. search needs) asked
-    (λ c. search needs) (λ c. search needs) loop-again (λ c. search needs) (λ c. search needs) (λ c. search needs)
-    (λ c. search needs) answered (λ c. sym (length-take-le _ _ (answered (c .before)))) (λ c κs. search needs) (λ c κs. search needs)
-    (λ c. search needs) (λ c. search needs) (λ c. search needs) (λ c κs. search needs) (λ c. search needs) (λ c. search needs)
-    (λ c. search needs) (λ c. search needs))
+    (λ c. search needs) (λ c. search needs) loop-again (λ c. search needs) (λ c. search needs) (λ c. search needs) (λ c. search needs) (λ c κs. search needs) (λ c. search needs) (λ c. search needs)
+    (λ c. search needs) (λ c κs. search needs) (λ c. search needs) (λ c. search needs) (λ c. search needs) (λ c. search needs))

@@ -1,6 +1,7 @@
 -- `main` takes the expression line, and goes on after it.
 use borrow.Author.Needs.{needs}
-use Rattle.lines.proofs.Taking.{inside-start, took, whole}
+use Rattle.lines.proofs.Taking.{inside-start}
+use Rattle.lines.proofs.WholeLine.{took, whole}
 use Rattle.records.proofs.main.Statement.{statement}
 use Rattle.records.proofs.main.Tie as tie
 

@@ -4,7 +4,7 @@ use native.Mathlib.Omega.{arith}
 use mathlib.Core.Path.{sym, subst}
 use lib.Seq.{length-take-le}
 use Rattle.lines.proofs.Putting.{put-within}
-use Rattle.lines.proofs.Taking.{within-column}
+use Rattle.lines.proofs.WholeLine.{within-column}
 use Rattle.records.proofs.Starting.{starts-as, sited-as}
 use Rattle.records.proofs.run.Statement.{statement}
 use Rattle.records.proofs.run.Tie as tie

@@ -5,7 +5,7 @@ use mathlib.Core.Path.{subst}
 use Rattle.lines.specs.declared.input.Line.the-variants.{Full}
 use Rattle.lines.specs.declared.input.Passed.{Passed}
 use Rattle.lines.specs.Input.{Took, Passes}
-use Rattle.lines.proofs.Taking.{took, as-none, as-ended, as-failed, with-rest, without-rest}
+use Rattle.lines.proofs.WholeLine.{took, as-none, as-ended, as-failed, with-rest, without-rest}
 use Rattle.lines.proofs.input.next_line.Statement.{statement}
 use Rattle.lines.proofs.input.next_line.Tie as tie
 

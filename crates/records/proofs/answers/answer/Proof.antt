@@ -5,7 +5,7 @@ use mathlib.Core.Path.{sym, subst}
 use lib.ListN.{length}
 use lib.Seq.{length-take-le}
 use Rattle.lines.specs.Input.{Within}
-use Rattle.lines.proofs.Taking.{within-column}
+use Rattle.lines.proofs.WholeLine.{within-column}
 use Rattle.records.proofs.Answering.{answered-none, answered-failed, answered-long, answered-record}
 use Rattle.records.proofs.answers.answer.Statement.{statement}
 use Rattle.records.proofs.answers.answer.Tie as tie
