@@ -16,8 +16,8 @@ static void judge_lines(const struct automaton *automaton)
     struct line line;
     for (read_line(stdin, &line); line.found != NO_LINE; read_line(stdin, &line))
         if (line.found == LONG_LINE) {
-            print_refusal((struct refusal){ RECORD_TOO_LONG, 0 });
             pass_over_rest(stdin);
+            print_refusal((struct refusal){ RECORD_TOO_LONG, 0 });
         } else {
             print_verdict(judge(automaton, line.bytes, line.length));
         }

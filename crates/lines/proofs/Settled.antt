@@ -50,7 +50,7 @@ module _ {block : List ℕ} {input : Input} (i : Inside input block) (bytes rest
         → Line-of-block block input bytes (Ended n input′) block′ column
     of-line {n} {input′} w j (v, t) =
         let split = first-newline bytes (rest ++ t .came) (take n column) (untaken block′ input′) u v
-            (sym (with-more (t .came)) ∙ t .all ∙ append-assoc (take n column) (newline ∷ []) (untaken block′ input′)) in
+        (sym (with-more (t .came)) ∙ t .all ∙ append-assoc (take n column) (newline ∷ []) (untaken block′ input′)) in
         let long = length-take-le n column w in
         let short = ap length (split .0) in
         let held = ap length stands in

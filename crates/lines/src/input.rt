@@ -160,7 +160,10 @@ pub fn next_line(block: &mut [u8], input: Input, column: &mut [u8]) -> Line
     let line = take_line(block, input, column);
     match line {
         Line::None => line,
-        Line::Ended { length: _, input: _ } => line,
+        Line::Ended {
+            length: _,
+            input: _,
+        } => line,
         Line::Failed => line,
         Line::Full { input: so_far } => match rest(block, so_far) {
             Passed::To { input: after } => Line::Full { input: after },

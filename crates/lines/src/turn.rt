@@ -17,13 +17,7 @@ pub enum Asked {
 }
 
 // The next line, and how much of the block is used still. What is answered is written out before a read, and so before the end of the input.
-pub fn ask(
-    taken: &mut [u8],
-    input: Input,
-    column: &mut [u8],
-    block: &[u8],
-    used: usize,
-) -> Asked
+pub fn ask(taken: &mut [u8], input: Input, column: &mut [u8], block: &[u8], used: usize) -> Asked
     requires { ⌜ Inside input (now taken) × (0 < length (now column)) ⌝ }
     requires { ⌜ (used ≤ length (now block)) × (line-room ≤ length (now block)) ⌝ }
     ensures { λ r.
