@@ -1,18 +1,19 @@
 -- A newline among the bytes of a block that are not taken yet, byte after byte; and what is written out before a read.
-use Prim.Native.Nat.{ℕ, _+_, _≤_, _<_}
+use Prim.Native.Nat.{ℕ, _+_, _-_, _≤_, _<_}
 use native.Mathlib.Omega.{arith}
 use mathlib.Core.Path.{_≡_, refl, sym, ap, _∙_, subst}
-use mathlib.Core.Bool.{Bool, true, false}
-use mathlib.Core.Logic.{inl, inr, ⊎-elim}
+use borrow.Author.Tests.{ltb-true, ltb-false}
+use mathlib.Core.Bool.{Bool, true, false, cond}
 use mathlib.Core.List.{List, _++_, List·Memᴰ, List·Memᴰ·head, List·Memᴰ·not-nil, Memᴰ·append-right}
 use lib.ListN.{length, getD}
+use lib.Dec.{ltb}
 use lib.Seq.{slice, slice-empty, slice-cons}
 use Rattle.theory.specs.Lines.{newline}
 use Rattle.lines.specs.declared.input.Input.{Input}
 use Rattle.lines.specs.declared.output.Room.{Room}
 use Rattle.lines.specs.declared.output.Room.the-variants.{For}
 use Rattle.lines.specs.Input.{untaken, Unbroken, Waits}
-use Rattle.lines.specs.Output.{Roomy}
+use Rattle.lines.specs.Output.{line-room, left-of, Roomy}
 use Rattle.lines.specs.Turn.{Left}
 use Rattle.lines.proofs.Taking.{slice-join, slice-one, unbroken-more}
 
@@ -57,13 +58,21 @@ module _ {block : List ℕ} {first at end : ℕ} (s : Looked block first at end)
 
 -- ---- What is left of a block that was shown
 
-module _ {taken : List ℕ} {input : Input} {size used left count : ℕ} where
-  pub left-of : (waits : Bool) {room : Room} → room ≡ For left count → Roomy size used waits room → Waits taken input waits
+module _ {taken : List ℕ} {input : Input} {size used left count : ℕ} (fits : used ≤ size) (roomy : line-room ≤ size) where
+  pub what-is-left : (waits : Bool) {room : Room} → room ≡ For left count → Roomy size used waits room → Waits taken input waits
       → Left taken input size used left
-  left-of waits is r w =
-      let k : Roomy size used waits (For left count) = subst (Roomy size used waits) is r in
-      record { room = k .0; whole = ⊎-elim (λ same. inl (same .0)) (λ none. inr (none .0)) (k .1); shown = shown waits w (k .2) }
+  what-is-left waits is r w = by waits w (subst (Roomy size used waits) is r .0)
     where
-      shown : (b : Bool) → Waits taken input b → (b ≡ true → left ≡ 0) → Unbroken (untaken taken input) → left ≡ 0
-      shown true w f u = f refl
-      shown false w f u = absurd (u w)
+      by : (b : Bool) → Waits taken input b → left ≡ left-of size used b → Left taken input size used left
+      by true w e = record { shown = λ u. e; full = λ l. e; stays = λ m. absurd (w m); room = omega arith }
+      by false w e = tight (ltb (size - used) line-room) refl
+        where
+          tight : (b : Bool) → ltb (size - used) line-room ≡ b → Left taken input size used left
+          tight true t =
+              let l = ltb-true (size - used) line-room t in
+              let none : left ≡ 0 = e ∙ rw (t, cond) in
+              record { shown = λ u. none; full = λ k. none; stays = λ m k. absurd (omega arith); room = omega arith }
+          tight false t =
+              let l = ltb-false (size - used) line-room t in
+              let same : left ≡ used = e ∙ rw (t, cond) in
+              record { shown = λ u. absurd (u w); full = λ k. absurd (omega arith); stays = λ m k. same; room = omega arith }

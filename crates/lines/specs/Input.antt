@@ -10,6 +10,8 @@ use lib.Seq.{slice}
 use lib.Dec.{eqb}
 use Rattle.theory.specs.Lines.{newline}
 use Rattle.lines.specs.declared.input.Input.{Input}
+use Rattle.lines.specs.declared.input.Filled.{Filled}
+use Rattle.lines.specs.declared.input.Filled.the-variants as filled
 use Rattle.lines.specs.declared.input.Next.{Next}
 use Rattle.lines.specs.declared.input.Next.the-variants as next
 use Rattle.lines.specs.declared.input.Line.{Line}
@@ -31,6 +33,12 @@ pub record Taken (block : List ℕ) (input : Input) (bytes block′ : List ℕ) 
   pub came : List ℕ
   pub all : untaken block input ++ came ≡ bytes ++ untaken block′ input′
   pub asked : ((came ≡ []) × (block′ ≡ block) × (input′ .end ≡ input .end)) ⊎ (length (untaken block input) < length bytes)
+
+-- How much of the block a read filled.
+abbrev pub Fills : Filled → List ℕ → Type 0
+Fills (filled.To end) block = (0 < end) × (end ≤ length block)
+Fills filled.End block = Unit {0}
+Fills filled.Failed block = Unit {0}
 
 abbrev pub Nexts : List ℕ → Input → Next → List ℕ → Type 0
 Nexts block input (next.Byte b input′) block′ = Inside input′ block′ × Taken block input (b ∷ []) block′ input′

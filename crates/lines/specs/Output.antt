@@ -1,10 +1,10 @@
 -- What is put into a block of output, and what is handed on to be written.
-use Prim.Native.Nat.{ℕ, _+_, _≤_}
+use Prim.Native.Nat.{ℕ, _+_, _-_}
 use mathlib.Core.Path.{_≡_}
-use mathlib.Core.Bool.{Bool, true}
-use mathlib.Core.Logic.{_⊎_}
+use mathlib.Core.Bool.{Bool, cond, _||_}
 use mathlib.Core.List.{List, _++_}
 use lib.ListN.{length, take}
+use lib.Dec.{ltb}
 use Rattle.lines.specs.declared.output.Written.{Written}
 use Rattle.lines.specs.declared.output.Written.the-variants as written
 use Rattle.lines.specs.declared.output.Room.{Room}
@@ -25,8 +25,10 @@ abbrev pub Wrote : ℕ → Written → Type 0
 Wrote n (written.All count) = count ≡ n
 Wrote n written.Failed = Unit {0}
 
--- A line fits after what is used then. What was used before is used still or is written, whole, and it is written where the caller waits.
+-- What is used is written, whole, where a line might not fit after it or the caller would wait; else it is used still, whole.
+abbrev pub left-of : (size used : ℕ) → Bool → ℕ
+left-of size used waits = cond (waits || ltb (size - used) line-room) 0 used
+
 abbrev pub Roomy : (size used : ℕ) → Bool → Room → Type 0
-Roomy size used waits (room.For used′ count) =
-    (used′ + line-room ≤ size) × (((used′ ≡ used) × (count ≡ 0)) ⊎ ((used′ ≡ 0) × (count ≡ used))) × (waits ≡ true → used′ ≡ 0)
+Roomy size used waits (room.For used′ count) = (used′ ≡ left-of size used waits) × (count + used′ ≡ used)
 Roomy size used waits room.Failed = Unit {0}

@@ -1,19 +1,20 @@
 -- What a turn takes, and what it leaves of the answers before it.
-use Prim.Native.Nat.{ℕ, _+_, _≤_}
+use Prim.Native.Nat.{ℕ, _+_, _≤_, _<_}
 use mathlib.Core.Path.{_≡_}
-use mathlib.Core.Logic.{_⊎_}
-use mathlib.Core.List.{List}
+use mathlib.Core.List.{List, List·Memᴰ}
+use Rattle.theory.specs.Lines.{newline}
 use Rattle.lines.specs.declared.input.Input.{Input}
 use Rattle.lines.specs.declared.turn.Asked.{Asked}
 use Rattle.lines.specs.declared.turn.Asked.the-variants.{Line, WriteFailed}
 use Rattle.lines.specs.Input.{untaken, Unbroken, TookWhole}
 use Rattle.lines.specs.Output.{line-room}
 
--- Of a block of so many bytes, so many are used still: all that were or, once they are written, none; none where the next line needs a read.
+-- Of a block of `size` bytes so many are used still: none where the next line needs a read or might not fit, and else all that were.
 pub record Left (taken : List ℕ) (input : Input) (size used left : ℕ) : Type 0 where
-  pub room : left + line-room ≤ size
-  pub whole : (left ≡ used) ⊎ (left ≡ 0)
   pub shown : Unbroken (untaken taken input) → left ≡ 0
+  pub full : size < used + line-room → left ≡ 0
+  pub stays : List·Memᴰ newline (untaken taken input) → used + line-room ≤ size → left ≡ used
+  pub room : left + line-room ≤ size
 
 -- What `ask` owes.
 abbrev pub Asks : List ℕ → Input → (size used : ℕ) → Asked → List ℕ → List ℕ → Type 0

@@ -3,7 +3,7 @@
 ghost use Prim.Native.Nat.{_<_};
 ghost use mathlib.Core.Path.{_≡_};
 ghost use lib.ListN.{length};
-ghost use Rattle.lines.specs.Input.{Inside, Nexts, Waits, last, Took, TookWhole, Within, line-bytes, Passes};
+ghost use Rattle.lines.specs.Input.{Inside, Fills, Nexts, Waits, last, Took, TookWhole, Within, line-bytes, Passes};
 
 // The bytes of the lent block from `at` to `end` are read and not yet taken. A block of one byte takes nothing after a newline.
 pub struct Input {
@@ -38,6 +38,27 @@ impl Input {
     }
 }
 
+enum Filled {
+    To { end: usize },
+    End,
+    Failed,
+}
+
+// Whatever a program takes comes by this one call. What it brings is libc's to say.
+fn fill(block: &mut [u8]) -> Filled
+    ensures { λ r. ⌜ Fills r (now (block .exit)) ⌝ }
+{
+    let got = libc::read(libc::STDIN_FILENO, block);
+    if got < 0 {
+        return Filled::Failed;
+    }
+    let end = io::count(got, block);
+    if end == 0 {
+        return Filled::End;
+    }
+    Filled::To { end }
+}
+
 fn take_byte(block: &mut [u8], input: Input) -> Next
     requires { ⌜ Inside input (now block) ⌝ }
     ensures { λ r. ⌜ Nexts (now (block .entry)) input r (now (block .exit)) ⌝ }
@@ -52,17 +73,13 @@ fn take_byte(block: &mut [u8], input: Input) -> Next
             },
         };
     }
-    let got = libc::read(libc::STDIN_FILENO, block);
-    if got < 0 {
-        return Next::Failed;
-    }
-    let end = io::count(got, block);
-    if end == 0 {
-        return Next::End;
-    }
-    Next::Byte {
-        byte: block[0],
-        input: Input { at: 1, end },
+    match fill(block) {
+        Filled::End => Next::End,
+        Filled::Failed => Next::Failed,
+        Filled::To { end } => Next::Byte {
+            byte: block[0],
+            input: Input { at: 1, end },
+        },
     }
 }
 

@@ -13,8 +13,8 @@ ghost use Rattle.theory.specs.Lines.{arc-line};
 ghost use Rattle.site.specs.Rooms;
 ghost use Rattle.theory.specs.Limit.{longest-text};
 ghost use Rattle.lines.specs.Input.{line-bytes, Whole};
-ghost use Rattle.lines.specs.Output.{Put};
-ghost use Rattle.listing.specs.Listing.{arc-bytes, state-bytes, listing-bytes, Narrow, arc-lines, state-text, state-lines, Lists, Prints};
+ghost use Rattle.lines.specs.Output.{Put, Wrote};
+ghost use Rattle.listing.specs.Listing.{arc-bytes, state-bytes, listing-bytes, Narrow, arc-lines, state-text, state-lines, Lists, Printed, Prints};
 
 // Any listing of the program's rooms: 12 bytes for an arc, 4 for a state.
 const LISTING: usize = site::ARCS * 12 + site::STATES * 4;
@@ -97,14 +97,23 @@ fn list(text: &[u8], block: &mut [u8]) -> usize
     }
 }
 
+// What is handed on to be written is the answer to the text.
+fn hand_on(text: &[u8], bytes: &[u8]) -> Written
+    requires { ⌜ Printed (now text) (now bytes) ⌝ }
+    ensures { λ r. ⌜ Wrote (length (now (bytes .entry))) r ⌝ }
+{
+    output::write(bytes)
+}
+
 // The answer to a line as it was taken, written out whole.
 fn print(line: Line, column: &[u8]) -> Written
     requires { ⌜ Whole longest-text line (now column) ⌝ }
     ensures { λ r. ⌜ Prints (line-bytes line (now (column .entry))) r ⌝ }
 {
     let mut block = [0u8; LISTING];
-    let used = list(lines::input::bytes(line, column), &mut block);
-    output::write(&block[..used])
+    let text = lines::input::bytes(line, column);
+    let used = list(text, &mut block);
+    hand_on(text, &block[..used])
 }
 
 fn main() {

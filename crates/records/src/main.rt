@@ -18,7 +18,7 @@ ghost use Rattle.lines.specs.Input.{Inside, line-bytes, Whole};
 ghost use Rattle.lines.specs.Output.{line-room};
 ghost use Rattle.site.specs.Site.{shown};
 ghost use Rattle.site.specs.Sited.{Sited};
-ghost use Rattle.records.specs.Start.{Starts};
+ghost use Rattle.records.specs.Start.{InRooms, Starts};
 
 // 01, refusal 16: "record line over 4,096 bytes".
 const RECORD: usize = 4096;
@@ -113,6 +113,7 @@ fn automaton_of(
     block: &mut [u8],
 ) -> Start
     requires { ⌜ Whole longest-text line (now column) × (line-room ≤ length (now block)) ⌝ }
+    requires { ⌜ InRooms (shown (now accepting) (now from) (now letter) (now to)) ⌝ }
     ensures { λ r.
         ⌜ Starts (line-bytes line (now (column .entry)))
         (shown (now (accepting .entry)) (now (from .entry)) (now (letter .entry)) (now (to .entry))) (now (block .entry)) r

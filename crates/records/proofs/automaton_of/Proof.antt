@@ -27,7 +27,7 @@ made c = c .before .before
 -- ---- The needs. Six steps lead past the columns of arcs, in whatever order they are lent.
 
 text-asked : tie.Need-bytes-requires
-text-asked c κs = within-column (start c .args .line) (start c .pre .0)
+text-asked c κs = within-column (start c .args .line) (start c .pre .0 .0)
 
 refused : tie.Need-returns
 refused c =

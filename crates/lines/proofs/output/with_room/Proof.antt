@@ -1,15 +1,10 @@
 -- `with_room` hands on all that is used, or leaves a line's room.
 use borrow.Author.Needs.{needs}
-use Prim.Native.Nat.{_-_}
 use native.Mathlib.Omega.{arith}
-use borrow.Author.Tests.{ltb-false}
 use mathlib.Core.Path.{refl, sym, subst, _∙_}
-use mathlib.Core.Bool.{false≢true}
-use mathlib.Core.Logic.{inl, inr}
-use lib.ListN.{length}
+use mathlib.Core.Bool.{cond}
 use lib.Seq.{length-take-le}
-use Rattle.theory.proofs.Tests.{or-left, or-right}
-use Rattle.lines.specs.Output.{line-room, Wrote}
+use Rattle.lines.specs.Output.{Wrote}
 use Rattle.lines.proofs.output.with_room.Statement.{statement}
 use Rattle.lines.proofs.output.with_room.Tie as tie
 
@@ -24,16 +19,10 @@ cleared c =
     let w = c .before .before .before in
     let s = start (w .before) in
     let all = subst (Wrote _) (c .before .count .given .1) (w .write .ensures) ∙ length-take-le _ _ (s .pre .0) in
-    (omega (arith, s .pre .1), inr (refl, all), λ _. refl)
+    (rw (w .before .before .if1 .taken, cond), omega arith)
 
 left : tie.Need-returns-3
-left c =
-    let s = c .before .before in
-    let free = length (s .args .block .now) - s .args .used in (
-      let l = ltb-false free line-room (or-right (s .args .waits) _ (c .if1 .left)) in omega (arith, s .pre .0),
-      inl (refl, refl),
-      λ w. absurd (false≢true (sym (or-left _ _ (c .if1 .left)) ∙ w)),
-    )
+left c = (rw (c .if1 .left, cond), omega arith)
 
 pub with-room-spec : {M : Type 1} → statement M
 with-room-spec =

@@ -1,10 +1,16 @@
 -- `ask` writes out what is answered before it waits, and takes the next line.
 use borrow.Author.Needs.{needs}
-use Rattle.lines.proofs.Waiting.{left-of}
+use Rattle.lines.proofs.Waiting.{what-is-left}
 use Rattle.lines.proofs.turn.ask.Statement.{statement}
 use Rattle.lines.proofs.turn.ask.Tie as tie
 
--- ---- The places: the calls of `waits` and of `with_room`, what is left, the call of `next_line`
+-- ---- The places: the entry, the calls of `waits` and of `with_room`, what is left, the call of `next_line`
+
+abbrev known : tie.After-waits → tie.After-slice-known2
+known c = c .before .before .before
+
+abbrev start : tie.After-waits → tie.Start
+start c = known c .before .before
 
 abbrev waited : tie.After-with-room → tie.After-waits
 waited c = c .before
@@ -25,7 +31,7 @@ asked c =
     let kept = told (took (c .before .before .before)) .before in
     let r = roomy kept in
     let w = waited r in
-    (left-of (w .waits .result) (kept .kept .given .1) (r .with-room .ensures) (w .waits .ensures), search needs)
+    (what-is-left (start w .pre .1 .0) (start w .pre .1 .1) (w .waits .result) (kept .kept .given .1) (r .with-room .ensures) (w .waits .ensures), search needs)
 
 pub ask-spec : {M : Type 1} → statement M
 ask-spec =
