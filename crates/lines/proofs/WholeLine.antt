@@ -11,7 +11,7 @@ use Rattle.lines.specs.declared.input.Line.{Line}
 use Rattle.lines.specs.declared.input.Line.the-variants.{None, Ended, Full, Failed}
 use Rattle.lines.specs.declared.input.Passed.the-variants.{To}
 use Rattle.lines.specs.declared.input.Passed.the-variants as rest
-use Rattle.lines.specs.Input.{Inside, untaken, Taken, Unbroken, To-newline, To-end, Comes, Stores, Took, TookWhole, Within, Whole, Passes}
+use Rattle.lines.specs.Input.{untaken, Taken, Unbroken, To-newline, To-end, Comes, Stores, Took, TookWhole, Within, Whole, Passes}
 use Rattle.lines.proofs.Taking.{after, taken-then, unbroken-joined, unbroken-before}
 
 module _ {Over : Input → Type 0} {block : List ℕ} {input : Input} {block′ column : List ℕ} where

@@ -88,9 +88,9 @@ pub fn with_room(block: &[u8], used: usize, waits: bool) -> Room
 
 // A program has no exit status: a read or a write that fails is told on standard error.
 pub fn tell_read_failed() {
-    io::write_all(libc::STDERR_FILENO, b"gumpaleri 0.2.0: read failed\n");
+    io::write_all(libc::STDERR_FILENO, b"gumpaleri 0.2.1: read failed\n");
 }
 
 pub fn tell_write_failed() {
-    io::write_all(libc::STDERR_FILENO, b"gumpaleri 0.2.0: write failed\n");
+    io::write_all(libc::STDERR_FILENO, b"gumpaleri 0.2.1: write failed\n");
 }
