@@ -1,10 +1,13 @@
 -- 01, "Two programs": what it shows of the programs' output, held against the definition of their lines. `(a&b)` has the sample listing.
+-- And what it says of every listing: state 0 is first.
+use Prim.Native.Nat.{ℕ}
 use mathlib.Core.Path.{_≡_}
-use mathlib.Core.List.{[], _∷_}
+use mathlib.Core.Logic.{_⊎_}
+use mathlib.Core.List.{List, [], _∷_, _++_}
 use Rattle.theory.specs.Expression.{Expression, ∅, ε, letter, binary, concatenation, shuffle}
 use Rattle.theory.specs.Refusal.{refusal, text-long}
 use Rattle.theory.specs.Record.{automaton, verdict, live}
-use Rattle.theory.specs.Lines.{listing, verdict-line, refusal-line}
+use Rattle.theory.specs.Lines.{space, newline, number-and, listing, verdict-line, refusal-line}
 
 -- `((a.b)&(c.d))`
 abbrev pub two-pairs : Expression
@@ -29,3 +32,14 @@ pub record Printed : Type 0 where
       ≡ 119 ∷ 114 ∷ 111 ∷ 110 ∷ 103 ∷ 32 ∷ 48 ∷ 10 ∷ []
   -- refused 12 0
   pub refused : refusal-line (refusal text-long 0) ≡ 114 ∷ 101 ∷ 102 ∷ 117 ∷ 115 ∷ 101 ∷ 100 ∷ 32 ∷ 49 ∷ 50 ∷ 32 ∷ 48 ∷ 10 ∷ []
+
+-- The bytes begin with the number 0 and no longer one: the byte after it is a space, as in an arc's line, or the newline of a state's line.
+pub record BeginsAtZero (bytes : List ℕ) : Type 0 where
+  pub after : ℕ
+  pub rest : List ℕ
+  pub begins : bytes ≡ number-and 0 after ++ rest
+  pub ends : (after ≡ space) ⊎ (after ≡ newline)
+
+-- "State 0 is first in any nonempty listing."
+pub record State0First : Type 0 where
+  pub first : (e : Expression) → ¬ (listing e ≡ []) → BeginsAtZero (listing e)
