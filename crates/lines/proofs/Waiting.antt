@@ -12,7 +12,7 @@ use Rattle.theory.specs.Lines.{newline}
 use Rattle.lines.specs.declared.input.Input.{Input}
 use Rattle.lines.specs.declared.output.Room.{Room}
 use Rattle.lines.specs.declared.output.Room.the-variants.{For}
-use Rattle.lines.specs.Input.{untaken, Unbroken, Waits}
+use Rattle.lines.specs.Input.{Unbroken, Waits}
 use Rattle.lines.specs.Output.{line-room, left-of, Roomy}
 use Rattle.lines.specs.Turn.{Left}
 use Rattle.lines.proofs.Taking.{slice-join, slice-one, unbroken-more}
