@@ -1,7 +1,7 @@
 -- `run` writes the refusal's line, or judges the records over the automaton of the line's bytes.
 use borrow.Author.Needs.{needs}
 use native.Mathlib.Omega.{arith}
-use mathlib.Core.Path.{sym, subst}
+use mathlib.Core.Path.{refl, sym, subst}
 use lib.Seq.{length-take-le}
 use Rattle.lines.proofs.Putting.{put-within}
 use Rattle.lines.proofs.WholeLine.{within-column}
@@ -32,6 +32,9 @@ refused c =
     let a = made (home .before .before .before) in
     put-within (starts-as (told .used .given .1) (a .automaton-of .ensures) .begins .2)
 
+rooms-asked : tie.Need-automaton-of-requires
+rooms-asked c κs = (search needs, record { states = refl; from = refl; letter = refl; to = refl })
+
 text-asked : tie.Need-bytes-requires
 text-asked c κs =
     let told = c .before in
@@ -54,7 +57,7 @@ judge-asked c κs =
 pub run-spec : {M : Type 1} → statement M
 run-spec =
     tie.close
-    (tie.spec (λ c. search needs) (λ c. search needs) (λ c. search needs) (λ c. search needs) (λ c. search needs) (λ c κs. search needs)
+    (tie.spec (λ c. search needs) (λ c. search needs) (λ c. search needs) (λ c. search needs) (λ c. search needs) rooms-asked
     (λ c. search needs) refused (λ c. sym (length-take-le _ _ (refused (c .before)))) (λ c κs. search needs)
     (λ c. search needs) text-asked (λ c. search needs) (λ c. search needs) (λ c. search needs) (λ c. search needs) judge-asked
     (λ c. search needs) (λ c. search needs) (λ c. search needs))
