@@ -6,7 +6,7 @@ use mathlib.Core.Path.{_≡_, _∙_, subst}
 use lib.ListN.{length}
 use Rattle.theory.specs.Refusal.{success}
 use Rattle.theory.specs.Expression.{entries, letters}
-use Rattle.theory.specs.Limit.{most-expressions, most-states, most-arcs}
+use Rattle.theory.specs.Limit.{most-states, most-arcs}
 use Rattle.theory.specs.Table.{Table, size, tree, WellFormed}
 use Rattle.theory.specs.Automaton.{states, expressions, arcs}
 use Rattle.theory.specs.Build.{Lent, Counts, Built, OverRoom, of-expressions, of-states, of-arcs}
@@ -30,7 +30,7 @@ arcs-cap : (m : ℕ) → m ≤ 10 → m * 4 ^ m ≤ most-arcs
 arcs-cap m l = le-trans (mul-le-mul l (pow-le-pow-right (omega arith) l)) (omega arith)
 
 built : {g : Table} {c : Lent} {answer : Counts} {c′ : Lent} → WellFormed g
-    → letter-entries g ≤ 10 → size g * 2 ^ letter-entries g + 1 ≤ most-expressions → Roomy c (size g) (letter-entries g)
+    → letter-entries g ≤ 10 → size g * 2 ^ letter-entries g + 1 ≤ 65535 → Roomy c (size g) (letter-entries g)
     → Built g c answer c′ → answer .refusal ≡ success
 built {g} {c} {answer} w few small r h =
     builder-answers h ∙ builder-due g c (none (r .even) w fits)

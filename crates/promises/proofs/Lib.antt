@@ -1,4 +1,6 @@
 pub mod Causes
+pub mod Numbers
+pub mod Tables
 pub mod Examples
 pub mod Printed
 pub mod Mistakes

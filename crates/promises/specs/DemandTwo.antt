@@ -9,7 +9,7 @@ use Rattle.theory.specs.Expression.{Expression, ∅}
 use Rattle.theory.specs.Distinct.{NoRepeats, Within}
 use Rattle.theory.specs.Automaton.{states, accepting, arcs, expressions}
 use Rattle.theory.specs.Needs.{Counted}
-use Rattle.theory.specs.Refusal.{success, room-small}
+use Rattle.theory.specs.Refusal.{success}
 use Rattle.theory.specs.Language.{Word, In}
 use Rattle.theory.specs.Table.{Table, trees, tree-at, tree, WellFormed}
 use Rattle.theory.specs.Build.{Lent, Counts, Built, EvenLent, OverRoom}
@@ -42,7 +42,7 @@ pub record DemandTwo : Type 0 where
       → a ≡ given (verdict (automaton (tree g)) w) (live (automaton (tree g)) w)
   -- Where the lent columns are even and the table is well-formed, 9 is given exactly when a need exceeds its room.
   pub refuses : {g : Table} {c : Lent} {answer : Counts} {c′ : Lent} → Built g c answer c′
-      → (answer .refusal .number ≡ room-small) ↔ (EvenLent c × WellFormed g × OverRoom (tree g) c)
+      → (answer .refusal .number ≡ 9) ↔ (EvenLent c × WellFormed g × OverRoom (tree g) c)
   -- What is counted against the rooms: the different derivatives of an expression by all words, the different triples, the different trees.
   pub needs : (e : Expression) → Counted e
   -- And a build without refusal leaves just that.

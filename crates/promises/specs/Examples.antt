@@ -7,7 +7,7 @@ use lib.ListN.{length}
 use lib.Dec.{eqb}
 use Rattle.theory.specs.Column.{zeros}
 use Rattle.theory.specs.Limit.{most-entries}
-use Rattle.theory.specs.Refusal.{Refusal, refusal, success, room-small}
+use Rattle.theory.specs.Refusal.{Refusal, refusal, success}
 use Rattle.theory.specs.Automaton.{states, expressions, arcs}
 use Rattle.theory.specs.Table.{Table, table, columns, tree, table-refusal}
 use Rattle.theory.specs.Grammar.{Text, Reading, read, refused, rows}
@@ -90,6 +90,6 @@ examples =
     -- ((a+1)&(b+1))*
     ∷ (40 ∷ 40 ∷ 97 ∷ 43 ∷ 49 ∷ 41 ∷ 38 ∷ 40 ∷ 98 ∷ 43 ∷ 49 ∷ 41 ∷ 41 ∷ 42 ∷ []) claims needs 3 9 8 (97 ∷ 98 ∷ []) accepted 2
     -- (a&b) with state room 3, and with 4
-    ∷ (40 ∷ 97 ∷ 38 ∷ 98 ∷ 41 ∷ []) claims with-states 3 (refusal room-small 0)
+    ∷ (40 ∷ 97 ∷ 38 ∷ 98 ∷ 41 ∷ []) claims with-states 3 (refusal 9 0)
     ∷ (40 ∷ 97 ∷ 38 ∷ 98 ∷ 41 ∷ []) claims with-states 4 success
     ∷ []

@@ -3,6 +3,8 @@ pub mod Table
 pub mod Builder
 pub mod Matcher
 pub mod JudgesSo
+pub mod Numbers
+pub mod Tables
 pub mod Examples
 pub mod Printed
 pub mod Mistakes

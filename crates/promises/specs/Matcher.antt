@@ -4,7 +4,7 @@ use mathlib.Core.Path.{_≡_}
 use mathlib.Core.Logic.{_↔_}
 use lib.ListN.{length, getD}
 use Rattle.theory.specs.Limit.{most-states, most-arcs}
-use Rattle.theory.specs.Refusal.{Refusal, refusal, success, columns-differ, automaton-malformed, work-short, record-long}
+use Rattle.theory.specs.Refusal.{Refusal, refusal, success}
 use Rattle.theory.specs.Build.{Lent, Counts}
 use Rattle.theory.specs.Arcs.{EvenArcs}
 use Rattle.theory.specs.Record.{Handed, handed, Work, cleared, LongEnough}
@@ -24,16 +24,16 @@ pub data Malformed (h : Handed) : Type 0 where
 
 -- `MatcherCause h k r`: with the work columns k there is cause for the refusal r. 01: "1 there speaks of the arc columns."
 pub data MatcherCause (h : Handed) (k : Work) : Refusal → Type 0 where
-  differ : ¬ EvenArcs (h .arcs .columns) → MatcherCause h k (refusal columns-differ 0)
-  malformed : EvenArcs (h .arcs .columns) → Malformed h → MatcherCause h k (refusal automaton-malformed 0)
-  short : EvenArcs (h .arcs .columns) → ¬ Malformed h → ¬ LongEnough k (h .states) → MatcherCause h k (refusal work-short 0)
+  differ : ¬ EvenArcs (h .arcs .columns) → MatcherCause h k (refusal 1 0)
+  malformed : EvenArcs (h .arcs .columns) → Malformed h → MatcherCause h k (refusal 10 0)
+  short : EvenArcs (h .arcs .columns) → ¬ Malformed h → ¬ LongEnough k (h .states) → MatcherCause h k (refusal 11 0)
   none : EvenArcs (h .arcs .columns) → ¬ Malformed h → LongEnough k (h .states) → MatcherCause h k success
 
 -- What demand 1 asks of a call: a refusal is given exactly where there is cause for it, and then verdict, place and live are zero; the work
 -- columns are zero afterwards in any case.
 pub record MatcherMeets (h : Handed) (k : Work) (answer : Judgement) (k′ : Work) : Type 0 where
   pub exact : (r : Refusal) → (answer .refusal ≡ r) ↔ MatcherCause h k r
-  pub numbered : answer .refusal .number < record-long
+  pub numbered : answer .refusal .number < 16
   pub counts : ¬ (answer .refusal .number ≡ 0) → (answer .verdict ≡ 0) × (answer .place ≡ 0) × (answer .live ≡ 0)
   pub columns : k′ ≡ cleared k
 

@@ -2,7 +2,7 @@
 use mathlib.Core.Path.{_≡_}
 use mathlib.Core.Logic.{_↔_}
 use lib.ListN.{length}
-use Rattle.theory.specs.Refusal.{Refusal, refusal, success, columns-differ, room-small}
+use Rattle.theory.specs.Refusal.{Refusal, refusal, success}
 use Rattle.theory.specs.Expression.{Expression}
 use Rattle.theory.specs.Language.{Word}
 use Rattle.theory.specs.Arcs.{EvenArcs}
@@ -27,8 +27,8 @@ pub record EvenShown (s : Shown) : Type 0 where
 -- or the arc columns differ; then 9.
 pub data SiteCause (text : Text) (s : Shown) : Refusal → Type 0 where
   unread : {r : Refusal} → ReaderCause text entry-columns r → ¬ (r .number ≡ 0) → SiteCause text s r
-  differ : (e : Expression) → Written text entry-columns e → ¬ EvenShown s → SiteCause text s (refusal columns-differ 0)
-  room : (e : Expression) → Written text entry-columns e → EvenShown s → OverRoom e (beside s) → SiteCause text s (refusal room-small 0)
+  differ : (e : Expression) → Written text entry-columns e → ¬ EvenShown s → SiteCause text s (refusal 1 0)
+  room : (e : Expression) → Written text entry-columns e → EvenShown s → OverRoom e (beside s) → SiteCause text s (refusal 9 0)
   none : (e : Expression) → Written text entry-columns e → EvenShown s → ¬ OverRoom e (beside s) → SiteCause text s success
 
 -- What demand 1 asks of a call: a refusal is given exactly where there is cause for it, and then all counts and columns are zero.
