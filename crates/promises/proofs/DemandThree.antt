@@ -7,17 +7,21 @@ use lib.ListN.{length}
 use Rattle.theory.specs.Refusal.{success}
 use Rattle.theory.specs.Expression.{entries, letters}
 use Rattle.theory.specs.Limit.{most-states, most-arcs}
-use Rattle.theory.specs.Table.{Table, size, tree, WellFormed}
+use Rattle.theory.specs.Table.{Table, size, tree}
 use Rattle.theory.specs.Automaton.{states, expressions, arcs}
 use Rattle.theory.specs.Build.{Lent, Counts, Built, OverRoom, of-expressions, of-states, of-arcs}
 use Rattle.theory.proofs.WellFormed.{tree-entries, tree-letters}
 use Rattle.theory.proofs.Bounds.{states-bound, expressions-bound, arcs-bound}
+use Rattle.promises.specs.Table.{WellFormed}
 use Rattle.promises.specs.Builder.{none}
+use Rattle.promises.proofs.Tested.{table-is}
 use Rattle.promises.proofs.Causes.Builder.{builder-due, builder-answers}
 use Rattle.promises.specs.DemandThree.{letter-entries, Needs, Roomy, DemandThree}
 
 needed : (g : Table) → WellFormed g → Needs g (size g) (letter-entries g)
-needed g w = subst (λ (m : ℕ). Needs g (size g) m) (tree-letters w) (subst (λ (n : ℕ). Needs g n (length (letters (tree g)))) (tree-entries w) bounds)
+needed g w =
+    let v = (table-is g) .1 w in
+    subst (λ (m : ℕ). Needs g (size g) m) (tree-letters v) (subst (λ (n : ℕ). Needs g n (length (letters (tree g)))) (tree-entries v) bounds)
   where
     bounds : Needs g (entries (tree g)) (length (letters (tree g)))
     bounds = record { states = states-bound (tree g); expressions = expressions-bound (tree g); arcs = arcs-bound (tree g) }

@@ -1,3 +1,4 @@
+pub mod Tested
 pub mod Causes
 pub mod Numbers
 pub mod Tables

@@ -3,10 +3,10 @@ use Prim.Native.Nat.{_<_}
 use mathlib.Core.Path.{_≡_}
 use mathlib.Core.Logic.{_↔_}
 use Rattle.theory.specs.Refusal.{Refusal, refusal, success}
-use Rattle.theory.specs.Table.{Table, tree, WellFormed}
+use Rattle.theory.specs.Table.{Table, tree}
 use Rattle.theory.specs.Automaton.{states, arcs, expressions}
 use Rattle.theory.specs.Build.{Lent, Counts, Cleared, EvenLent, OverRoom}
-use Rattle.promises.specs.Table.{TableCause}
+use Rattle.promises.specs.Table.{WellFormed, TableCause}
 
 -- `BuilderCause g c r`: there is cause for the refusal r.
 pub data BuilderCause (g : Table) (c : Lent) : Refusal → Type 0 where

@@ -6,10 +6,11 @@ use mathlib.Core.Path.{_≡_}
 use lib.ListN.{length}
 use lib.Dec.{eqb}
 use Rattle.theory.specs.Refusal.{success}
-use Rattle.theory.specs.Table.{Table, row, size, tree, WellFormed}
+use Rattle.theory.specs.Table.{Table, row, size, tree}
 use Rattle.theory.specs.Automaton.{states, expressions, arcs}
 use Rattle.theory.specs.Build.{Lent, Counts, Built, EvenLent}
 use Rattle.theory.specs.Below.{count-below}
+use Rattle.promises.specs.Table.{WellFormed}
 
 -- The letter's m: the entries of kind 2.
 abbrev pub letter-entries : Table → ℕ

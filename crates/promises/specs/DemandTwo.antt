@@ -11,11 +11,12 @@ use Rattle.theory.specs.Automaton.{states, accepting, arcs, expressions}
 use Rattle.theory.specs.Needs.{Counted}
 use Rattle.theory.specs.Refusal.{success}
 use Rattle.theory.specs.Language.{Word, In}
-use Rattle.theory.specs.Table.{Table, trees, tree-at, tree, WellFormed}
+use Rattle.theory.specs.Table.{Table, trees, tree-at, tree}
 use Rattle.theory.specs.Build.{Lent, Counts, Built, EvenLent, OverRoom}
 use Rattle.theory.specs.Arcs.{counted, used}
 use Rattle.theory.specs.Record.{automaton, verdict, live, Work, LongEnough}
 use Rattle.theory.specs.Judge.{Judgement, given, Judged}
+use Rattle.promises.specs.Table.{WellFormed}
 use Rattle.promises.specs.Matcher.{after-build}
 
 -- The part of the columns that is used holds what is counted of e: its states in order, each with its mark and a row of its tree, its arcs in
