@@ -1,4 +1,5 @@
 pub mod Tested
+pub mod Words
 pub mod Causes
 pub mod Numbers
 pub mod Tables

@@ -2,6 +2,7 @@ pub mod Reader
 pub mod Table
 pub mod Builder
 pub mod Matcher
+pub mod Words
 pub mod JudgesSo
 pub mod Numbers
 pub mod Tables
