@@ -8,6 +8,7 @@ pub mod Printed
 pub mod Mistakes
 pub mod Limits
 pub mod Site
+pub mod TextCauses
 pub mod DemandOne
 pub mod JudgesSo
 pub mod Handing

@@ -70,8 +70,25 @@ caused-by {text} e s w = go (even-test s) (over-room e (beside s)) refl refl
     go true false p q = rw (by-tests e s p q) (none e w (even-passed s p) (λ x. false≢true (sym q ∙ (over-iff e (beside s)) .1 x)))
     go false o p q = rw (by-tests e s p q) (differ e w (λ v. false≢true (sym p ∙ even-passes s v)))
 
+-- Nothing is refused of an expression just where the columns are even and its needs do not exceed their rooms.
+pub fitting : (e : Expression) (s : Shown) → (site-refusal e s) .number ≡ 0 → EvenShown s × ¬ OverRoom e (beside s)
+unfolding ordered
+fitting e s z = go (even-test s) (over-room e (beside s)) refl refl
+  where
+    at : {b o : Bool} → even-test s ≡ b → over-room e (beside s) ≡ o → (ordered b o) .number ≡ 0
+    at p q = ap (λ (r : Refusal). r .number) (sym (by-tests e s p q)) ∙ z
+
+    go : (b o : Bool) → even-test s ≡ b → over-room e (beside s) ≡ o → EvenShown s × ¬ OverRoom e (beside s)
+    go true true p q = absurd (let n = at p q in omega arith)
+    go true false p q = (even-passed s p, λ x. false≢true (sym q ∙ (over-iff e (beside s)) .1 x))
+    go false o p q = absurd (let n = at p q in omega arith)
+
+pub fits : (e : Expression) (s : Shown) → EvenShown s → ¬ OverRoom e (beside s) → site-refusal e s ≡ success
+unfolding ordered
+fits e s v n = by-tests e s (even-passes s v) (not-so (over-room e (beside s)) (λ p. n ((over-iff e (beside s)) .0 p)))
+
 -- The answer's refusal is the expression's.
-refusal-of : (e : Expression) (s : Shown) → (answered (read e) s) .refusal ≡ site-refusal e s
+pub refusal-of : (e : Expression) (s : Shown) → (answered (read e) s) .refusal ≡ site-refusal e s
 unfolding ordered needs
 refusal-of e s = go (ℕ-discrete ((site-refusal e s) .number) 0)
   where
@@ -90,16 +107,20 @@ refusal-of e s = go (ℕ-discrete ((site-refusal e s) .number) 0)
 
 -- ---- The demand
 
+-- A text that is not read is refused with a number.
+pub unread-some : {text : Text} {r : Refusal} → Due text entry-columns (refused r) → ¬ (r .number ≡ 0)
+unread-some d z = let x = expressed d z in let no : _≡_ {A = ℕ} 0 1 = told-apart (x .is) in omega arith
+  where
+    told-apart : {r : Refusal} {e : Expression} → refused r ≡ read e → _≡_ {A = ℕ} 0 1
+    told-apart q = cc
+
 module _ {text : Text} {s : Shown} where
-  caused : (q : Reading) → Due text entry-columns q → SiteCause text s ((answered q s) .refusal)
+  pub caused : (q : Reading) → Due text entry-columns q → SiteCause text s ((answered q s) .refusal)
   unfolding answered
   caused (read e) d = rw (refusal-of e s) (caused-by e s (due-written d))
-  caused (refused r) d = unread (reader-caused d) (λ z. let x = expressed d z in let no : _≡_ {A = ℕ} 0 1 = told-apart (x .is) in omega arith)
-    where
-      told-apart : {r : Refusal} {e : Expression} → refused r ≡ read e → _≡_ {A = ℕ} 0 1
-      told-apart q = cc
+  caused (refused r) d = unread (reader-caused d) (unread-some d)
 
-  due : {r : Refusal} (q : Reading) → Due text entry-columns q → SiteCause text s r → (answered q s) .refusal ≡ r
+  pub due : {r : Refusal} (q : Reading) → Due text entry-columns q → SiteCause text s r → (answered q s) .refusal ≡ r
   unfolding answered ordered
   due (read e) d (unread c n) = absurd (n (ap (λ (r : Refusal). r .number) (sym (reader-due d c))))
   due (refused r) d (unread c n) = reader-due d c

@@ -6,7 +6,6 @@ use mathlib.Core.List.{List, [], _∷_}
 use lib.ListN.{length}
 use lib.Dec.{eqb}
 use Rattle.theory.specs.Column.{zeros}
-use Rattle.theory.specs.Limit.{most-entries}
 use Rattle.theory.specs.Refusal.{Refusal, refusal, success}
 use Rattle.theory.specs.Automaton.{states, expressions, arcs}
 use Rattle.theory.specs.Table.{Table, table, columns, tree, table-refusal}
@@ -64,7 +63,7 @@ holds-of (with-states room r) t = same-refusal (build-refusal t (with-room room)
 unfoldable pub all-hold : List Line → Bool
 unfolding table-of holds-of scan
 all-hold [] = true
-all-hold (l ∷ ls) = holds-of (l .claim) (table-of (scan most-entries (l .text))) && all-hold ls
+all-hold (l ∷ ls) = holds-of (l .claim) (table-of (scan 512 (l .text))) && all-hold ls
 
 unfoldable pub examples : List Line
 examples =

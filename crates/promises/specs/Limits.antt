@@ -5,7 +5,6 @@ use mathlib.Core.Bool.{Bool, true, _&&_}
 use mathlib.Core.List.{List, [], _∷_, _++_, flatMap}
 use lib.ListN.{replicate}
 use lib.Dec.{eqb}
-use Rattle.theory.specs.Limit.{most-entries}
 use Rattle.theory.specs.Refusal.{Refusal, refusal, success}
 use Rattle.theory.specs.Expression.{entries}
 use Rattle.theory.specs.Grammar.{Text}
@@ -29,7 +28,7 @@ keeps l a = same-refusal (a .refusal) (l .refusal) && eqb (a .entries) (l .entri
 unfoldable pub all-keep : List Limit → Bool
 unfolding keeps scan entries
 all-keep [] = true
-all-keep (l ∷ ls) = keeps l (entered (scan most-entries (l .text))) && all-keep ls
+all-keep (l ∷ ls) = keeps l (entered (scan 512 (l .text))) && all-keep ls
 
 -- a under n stars
 abbrev starred : ℕ → Text
