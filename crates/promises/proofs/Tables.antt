@@ -6,10 +6,10 @@ use mathlib.Core.Logic.{_↔_, _⊎_, inl, inr, ⊎-elim}
 use lib.Dec.{T, leb}
 use borrow.Author.Tests.{leb-true, le-leb}
 use Rattle.theory.specs.Expression.{letter}
-use Rattle.theory.specs.Table.{tree, kind-of-sign}
+use Rattle.theory.specs.Table.{tree, kind-of-sign, table-refusal}
 use Rattle.theory.specs.Grammar.{is-letter, written, Writable, rows, sign-byte}
 use Rattle.theory.proofs.Tests.{or-true, or-of}
-use Rattle.promises.specs.Tables.{TablesMean}
+use Rattle.promises.specs.Tables.{TablesMean, TablesRefused}
 
 -- What is true and a test that passes.
 passed : (b : Bool) → T b → b ≡ true
@@ -51,4 +51,30 @@ tables-mean = record {
   reads-shuffle = record { spelled = refl; entries = refl };
   reads-star = record { spelled = refl; entries = refl };
   letters = letter-bytes;
+}
+
+pub tables-refused : TablesRefused
+unfolding table-refusal
+tables-refused = record {
+  left-short = refl;
+  right-long = refl;
+  no-entry = refl;
+  entries-513 = refl;
+  entries-512 = refl;
+  kind-7 = refl;
+  letter-0 = refl;
+  letter-1 = refl;
+  letter-255 = refl;
+  letter-256 = refl;
+  letter-right = refl;
+  empty-language-left = refl;
+  empty-language-right = refl;
+  empty-word-left = refl;
+  empty-word-right = refl;
+  star-right = refl;
+  child-itself = refl;
+  child-right = refl;
+  empty-language-inside = refl;
+  named-twice = refl;
+  named-never = refl;
 }

@@ -5,7 +5,7 @@ use native.Mathlib.Decide.{ℕ-discrete}
 use native.Mathlib.Omega.{arith, by-contra}
 use mathlib.Core.Path.{_≡_, refl, sym, ap, _∙_}
 use lib.ListN.{length}
-use Rattle.theory.specs.Refusal.{Refusal, refusal, success}
+use Rattle.theory.specs.Refusal.{Refusal}
 use Rattle.theory.specs.Expression.{Expression}
 use Rattle.theory.specs.Language.{Word}
 use Rattle.theory.specs.Automaton.{states, arcs}
@@ -14,7 +14,7 @@ use Rattle.theory.specs.Grammar.{Text, Reading, read, refused}
 use Rattle.theory.specs.Read.{Due}
 use Rattle.theory.specs.Build.{OverRoom, of-states, of-arcs}
 use Rattle.theory.specs.Record.{Work, WellFormedAutomaton, matcher-refusal}
-use Rattle.theory.specs.Judge.{Judgement, Judged, judgement, withheld}
+use Rattle.theory.specs.Judge.{Judgement, judgement, withheld}
 use Rattle.theory.proofs.Due.{due-once}
 use Rattle.theory.proofs.Answers.{judgement-refused}
 use Rattle.theory.proofs.Filled.{filled-even, filled-well-formed}
@@ -23,7 +23,7 @@ use Rattle.site.specs.Sited.{automaton-in, told, JudgesText}
 use Rattle.site.proofs.Making.{unless-none, unless-some}
 use Rattle.promises.specs.Reader as Reader
 use Rattle.promises.specs.Matcher as Matcher
-use Rattle.promises.specs.Matcher.{TooShort, MatcherCause}
+use Rattle.promises.specs.Matcher.{MatcherCause}
 use Rattle.promises.specs.Site.{EvenShown, SiteCause, unread, differ, room, none, TextCause, unbuilt, short, judged, TextMeets}
 use Rattle.promises.proofs.Causes.Exactly.{exactly}
 use Rattle.promises.proofs.Causes.Reader.{written-due, due-written}

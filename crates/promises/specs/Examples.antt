@@ -4,7 +4,7 @@ use Prim.Native.Nat.{ℕ}
 use mathlib.Core.Bool.{Bool, true, false, _&&_}
 use mathlib.Core.List.{List, [], _∷_}
 use lib.ListN.{length}
-use lib.Dec.{eqb}
+use lib.Dec.{T, eqb}
 use Rattle.theory.specs.Column.{zeros}
 use Rattle.theory.specs.Refusal.{Refusal, refusal, success}
 use Rattle.theory.specs.Automaton.{states, expressions, arcs}
@@ -92,3 +92,7 @@ examples =
     ∷ (40 ∷ 97 ∷ 38 ∷ 98 ∷ 41 ∷ []) claims with-states 3 (refusal 9 0)
     ∷ (40 ∷ 97 ∷ 38 ∷ 98 ∷ 41 ∷ []) claims with-states 4 success
     ∷ []
+
+-- "Proved together as a single table with one claim about it".
+pub record ExamplesHold : Type 0 where
+  pub all : T (all-hold examples)

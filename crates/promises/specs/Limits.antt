@@ -4,7 +4,7 @@ use Prim.Native.Nat.{ℕ}
 use mathlib.Core.Bool.{Bool, true, _&&_}
 use mathlib.Core.List.{List, [], _∷_, _++_, flatMap}
 use lib.ListN.{replicate}
-use lib.Dec.{eqb}
+use lib.Dec.{T, eqb}
 use Rattle.theory.specs.Refusal.{Refusal, refusal, success}
 use Rattle.theory.specs.Expression.{entries}
 use Rattle.theory.specs.Grammar.{Text}
@@ -53,3 +53,7 @@ limits =
     ∷ nested 64 gives success entries 129
     ∷ nested 65 gives refusal 14 64 entries 0
     ∷ []
+
+-- One claim about the table of texts.
+pub record LimitsKeep : Type 0 where
+  pub all : T (all-keep limits)
