@@ -29,8 +29,10 @@ module _ (w : Row) where
   fits-of ε-kind k l e = let (p, q) = (and-eq-true-iff _ _) .0 e in empty-word k (eqb-true _ _ p) (eqb-true _ _ q)
   fits-of letter-kind k l e =
       let (range, q) = (and-eq-true-iff (leb 1 (w .left) && leb (w .left) 255) (eqb (w .right) 0)) .0 e in
-      let (p, b) = (and-eq-true-iff _ _) .0 range in
-      letter k (leb-true _ _ p) (leb-true _ _ b) (eqb-true _ _ q)
+      let (p, b) = (and-eq-true-iff (leb 1 (w .left)) (leb (w .left) 255)) .0 range in
+      let least = leb-true 1 (w .left) p in
+      let most = leb-true (w .left) 255 b in
+      letter k (omega arith) (omega arith) (eqb-true _ _ q)
   fits-of (sign-kind s) k l e = fits-sign s k
   fits-of star-kind k l e = star k (eqb-true _ _ e)
   fits-of unknown-kind k l e = absurd (omega arith)
@@ -42,7 +44,7 @@ module _ (w : Row) where
   unfolding fields-fit kind-of-sign
   tested (empty-language k p q) = tested-as ∅-kind k (rw (eq-eqb _ _ p, eq-eqb _ _ q))
   tested (empty-word k p q) = tested-as ε-kind k (rw (eq-eqb _ _ p, eq-eqb _ _ q))
-  tested (letter k p b q) = tested-as letter-kind k (rw (le-leb _ _ p, le-leb _ _ b, eq-eqb _ _ q))
+  tested (letter k p b q) = tested-as letter-kind k (rw (le-leb 1 (w .left) (omega arith), le-leb (w .left) 255 (omega arith), eq-eqb _ _ q))
   tested (union k) = tested-as (sign-kind Expression.union) k refl
   tested (concatenation k) = tested-as (sign-kind Expression.concatenation) k refl
   tested (shuffle k) = tested-as (sign-kind Expression.shuffle) k refl
