@@ -24,11 +24,11 @@ use Rattle.site.proofs.Making.{unless-none, unless-some}
 use Rattle.promises.specs.Reader as Reader
 use Rattle.promises.specs.Matcher as Matcher
 use Rattle.promises.specs.Matcher.{MatcherCause}
-use Rattle.promises.specs.Site.{EvenShown, SiteCause, unread, differ, room, none, TextCause, unbuilt, short, judged, TextMeets}
+use Rattle.promises.specs.Site.{EvenShown, TextCause, unbuilt, short, judged, TextMeets}
 use Rattle.promises.proofs.Causes.Exactly.{exactly}
 use Rattle.promises.proofs.Causes.Reader.{written-due, due-written}
 use Rattle.promises.proofs.Causes.Matcher.{never-malformed, matcher-caused, matcher-due, matcher-answers}
-use Rattle.promises.proofs.Site.{fitting, fits, refusal-of, unread-some, caused, due}
+use Rattle.promises.proofs.Site.{fitting, fits, refusal-of, unread-some, caused, due, site-number}
 
 -- ---- An expression that builds
 
@@ -103,21 +103,6 @@ module _ (s : Shown) (k : Work) (w : Word) where
         ∙ matcher-due (automaton-in e s) k (Matcher.none (even-built e s v n) (never-malformed (automaton-in e s) (formed e s v n)) l)
 
 -- ---- The numbers
-
-reader-number : {text : Text} {r : Refusal} → Reader.ReaderCause text entry-columns r → (r .number < 16) × ¬ (r .number ≡ 10)
-reader-number (Reader.differ n) = (omega arith, λ z. omega arith)
-reader-number (Reader.long v l) = (omega arith, λ z. omega arith)
-reader-number (Reader.broken p r v) = (omega arith, λ z. omega arith)
-reader-number (Reader.stopped l p n) = (omega arith, λ z. omega arith)
-reader-number (Reader.deep p r v l) = (omega arith, λ z. omega arith)
-reader-number (Reader.many p r v l) = (omega arith, λ z. omega arith)
-reader-number (Reader.none e w) = (omega arith, λ z. omega arith)
-
-site-number : {text : Text} {s : Shown} {r : Refusal} → SiteCause text s r → (r .number < 16) × ¬ (r .number ≡ 10)
-site-number (unread c n) = reader-number c
-site-number (differ e w n) = (omega arith, λ z. omega arith)
-site-number (room e w v o) = (omega arith, λ z. omega arith)
-site-number (none e w v n) = (omega arith, λ z. omega arith)
 
 text-number : {text : Text} {s : Shown} {k : Work} {r : Refusal} → TextCause text s k r → (r .number < 16) × ¬ (r .number ≡ 10)
 text-number (unbuilt c n) = site-number c

@@ -36,6 +36,7 @@ pub data SiteCause (text : Text) (s : Shown) : Refusal → Type 0 where
 -- What demand 1 asks of a call: a refusal is given exactly where there is cause for it, and then all counts and columns are zero.
 pub record SiteMeets (text : Text) (s : Shown) (answer : Answer) (s′ : Shown) : Type 0 where
   pub exact : (r : Refusal) → (answer .refusal ≡ r) ↔ SiteCause text s r
+  pub numbered : answer .refusal .number < 16
   pub counts : ¬ (answer .refusal .number ≡ 0) → answer ≡ withheld (answer .refusal)
   pub columns : ¬ (answer .refusal .number ≡ 0) → s′ ≡ blank s
 
