@@ -1,7 +1,6 @@
--- 01, "Proved examples": "Proved together as a single table with one claim about it". Computed.
-use lib.Dec.{T}
-use Rattle.promises.specs.Examples.{all-hold, examples}
+-- 01's proved examples. Computed.
+use Rattle.promises.specs.Examples.{all-hold, examples, ExamplesHold}
 
-pub examples-hold : T (all-hold examples)
+pub examples-hold : ExamplesHold
 unfolding all-hold examples
-examples-hold = tt
+examples-hold = record { all = tt }

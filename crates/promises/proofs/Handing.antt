@@ -8,11 +8,11 @@ use mathlib.Core.List.{List}
 use lib.ListN.{length, take}
 use Rattle.theory.specs.Refusal.{Refusal, success, room-small}
 use Rattle.theory.specs.Language.{Word, In}
-use Rattle.theory.specs.Table.{Table, tree, WellFormed}
+use Rattle.theory.specs.Table.{Table, tree}
 use Rattle.theory.specs.Automaton.{states, accepting, expressions, arcs}
 use Rattle.theory.specs.Build.{Lent, Counts, Built, build-refusal, state-room, arc-room, EvenLent, OverRoom, of-states, of-arcs}
 use Rattle.theory.specs.Arcs.{used}
-use Rattle.theory.specs.Record.{Handed, handed, automaton, accepted, verdict, live, WellFormedAutomaton, Work, LongEnough, matcher-refusal}
+use Rattle.theory.specs.Record.{Handed, handed, automaton, accepted, verdict, live, WellFormedAutomaton, Work, matcher-refusal}
 use Rattle.theory.specs.Judge.{Judgement, Judged, judgement, given}
 use Rattle.theory.proofs.WellFormed.{tree-lettered}
 use Rattle.theory.proofs.Answers.{counts-built, judgement-given}
@@ -20,10 +20,12 @@ use Rattle.theory.proofs.Column.{take-filled}
 use Rattle.theory.proofs.Verdicts.{verdict-says}
 use Rattle.theory.proofs.Accepts.{accepting-length, IsAutomaton, accepted-language, verdict-own, live-own, automaton-is}
 use Rattle.theory.proofs.Filled.{filled-up, filled-even, filled-well-formed, filled-is}
+use Rattle.promises.specs.Table.{WellFormed}
 use Rattle.promises.specs.Builder.{BuilderCause, differ, table, room, none}
 use Rattle.promises.specs.Matcher as Matching
-use Rattle.promises.specs.Matcher.{after-build}
+use Rattle.promises.specs.Matcher.{TooShort, after-build}
 use Rattle.promises.specs.DemandTwo.{HeldBy}
+use Rattle.promises.proofs.Tested.{table-is}
 use Rattle.promises.proofs.Causes.Builder.{builder-caused, builder-due, builder-number}
 use Rattle.promises.proofs.Causes.Table.{table-numbered}
 use Rattle.promises.proofs.Causes.Matcher.{never-malformed, matcher-due, matcher-answers}
@@ -81,12 +83,12 @@ module _ {g : Table} {c : Lent} {answer : Counts} {c′ : Lent} (h : Built g c a
   own : IsAutomaton (tree g) left
   own = filled-is (tree g) (length (c .accepting)) (c .arcs)
 
-  module _ {w : Word} {k k′ : Work} {a : Judgement} (j : Judged (after-build answer c′) w k a k′) (enough : LongEnough k (answer .states)) where
+  module _ {w : Word} {k k′ : Work} {a : Judgement} (j : Judged (after-build answer c′) w k a k′) (enough : ¬ TooShort k (answer .states)) where
     not-refused : matcher-refusal left k ≡ success
     not-refused =
         matcher-due left k
         (Matching.none (filled-even (c .arcs) (arcs (tree g)) (even .arcs) few-arcs) (never-malformed left well-handed)
-        (subst (λ (x : Counts). LongEnough k (x .states)) answered enough))
+        (subst (λ (x : Counts). ¬ TooShort k (x .states)) answered enough))
 
     judged : a ≡ given (verdict left w) (live left w)
     judged =
@@ -98,7 +100,7 @@ module _ {g : Table} {c : Lent} {answer : Counts} {c′ : Lent} (h : Built g c a
       matcher-answers j ∙ ap (λ (x : Handed). matcher-refusal x k) handed-over ∙ not-refused,
       subst (λ (x : Judgement). (x .verdict ≡ 1) ↔ In (tree g) w) (sym judged)
           (Iff·trans (given-accepted (live left w) (verdict left w))
-          (Iff·trans (verdict-says left w accepted) (accepted-language own (tree-lettered well) w))),
+          (Iff·trans (verdict-says left w accepted) (accepted-language own (tree-lettered ((table-is g) .1 well)) w))),
     )
 
     pub own-verdict : a ≡ given (verdict (automaton (tree g)) w) (live (automaton (tree g)) w)

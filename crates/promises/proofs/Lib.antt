@@ -1,9 +1,14 @@
+pub mod Tested
+pub mod Words
 pub mod Causes
+pub mod Numbers
+pub mod Tables
 pub mod Examples
 pub mod Printed
 pub mod Mistakes
 pub mod Limits
 pub mod Site
+pub mod TextCauses
 pub mod DemandOne
 pub mod JudgesSo
 pub mod Handing

@@ -1,7 +1,6 @@
 -- 01's limits of what the reader takes. Computed.
-use lib.Dec.{T}
-use Rattle.promises.specs.Limits.{all-keep, limits}
+use Rattle.promises.specs.Limits.{all-keep, limits, LimitsKeep}
 
-pub limits-keep : T (all-keep limits)
+pub limits-keep : LimitsKeep
 unfolding all-keep limits
-limits-keep = tt
+limits-keep = record { all = tt }

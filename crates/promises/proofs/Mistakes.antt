@@ -6,7 +6,6 @@ use mathlib.Core.Path.{_≡_, refl, sym, _∙_}
 use mathlib.Core.Bool.{true, false, false≢true}
 use mathlib.Core.List.{List·Memᴰ, List·Memᴰ·cases-cons, List·Memᴰ·not-nil}
 use mathlib.Core.Logic.{⊎-elim}
-use lib.Dec.{T}
 use Rattle.theory.specs.Expression.{letters}
 use Rattle.theory.specs.Language.{Word, In}
 use Rattle.theory.specs.Record.{automaton, accepts}
@@ -14,11 +13,11 @@ use Rattle.theory.proofs.WellFormed.{Lettered}
 use Rattle.theory.proofs.Accepts.{accepts-language}
 use Rattle.promises.specs.Examples.{all-hold}
 use Rattle.promises.specs.Printed.{two-pairs}
-use Rattle.promises.specs.Mistakes.{mistakes, Mixed}
+use Rattle.promises.specs.Mistakes.{mistakes, MistakesShutOut, Mixed}
 
-pub mistakes-shut-out : T (all-hold mistakes)
+pub mistakes-shut-out : MistakesShutOut
 unfolding all-hold mistakes
-mistakes-shut-out = tt
+mistakes-shut-out = record { all = tt }
 
 two-lettered : Lettered two-pairs
 unfolding letters

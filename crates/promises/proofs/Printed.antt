@@ -21,7 +21,16 @@ use Rattle.promises.specs.Printed.{Printed, BeginsAtZero, State0First}
 
 pub printed : Printed
 unfolding listing decimal automaton verdict live
-printed = record { two-letters = refl; empty-language = refl; empty-word = refl; whole = refl; start = refl; fault = refl; refused = refl }
+printed = record {
+  two-letters = refl;
+  listed-in-order = refl;
+  empty-language = refl;
+  empty-word = refl;
+  whole = refl;
+  start = refl;
+  fault = refl;
+  refused = refl;
+}
 
 -- ---- State 0 first
 

@@ -1,7 +1,7 @@
 -- The site's two calls: the causes of a refusal, and that two results are equal. Leans on the reader's causes and on `Due`: one reading is due.
 use native.Mathlib.Decide.{ℕ-discrete}
 use native.Mathlib.Omega.{arith}
-use Prim.Native.Nat.{ℕ}
+use Prim.Native.Nat.{ℕ, _<_}
 use mathlib.Core.Path.{_≡_, refl, sym, ap, _∙_}
 use mathlib.Core.Bool.{Bool, true, false, cond, _&&_, false≢true, and-eq-true-iff}
 use lib.ListN.{length}
@@ -30,6 +30,7 @@ use Rattle.site.specs.declared.Told.{Told}
 use Rattle.site.specs.declared.Told.the-variants as tell
 use Rattle.site.proofs.Telling.{refused-number}
 use Rattle.site.proofs.Making.{answered-built, answered-refused, left-refused}
+use Rattle.promises.specs.Reader as reader
 use Rattle.promises.specs.Reader.{Written}
 use Rattle.promises.specs.Site.{EvenShown, SiteCause, unread, differ, room, none, SiteMeets, SiteOnce}
 use Rattle.promises.proofs.Causes.Exactly.{exactly}
@@ -70,8 +71,25 @@ caused-by {text} e s w = go (even-test s) (over-room e (beside s)) refl refl
     go true false p q = rw (by-tests e s p q) (none e w (even-passed s p) (λ x. false≢true (sym q ∙ (over-iff e (beside s)) .1 x)))
     go false o p q = rw (by-tests e s p q) (differ e w (λ v. false≢true (sym p ∙ even-passes s v)))
 
+-- Nothing is refused of an expression just where the columns are even and its needs do not exceed their rooms.
+pub fitting : (e : Expression) (s : Shown) → (site-refusal e s) .number ≡ 0 → EvenShown s × ¬ OverRoom e (beside s)
+unfolding ordered
+fitting e s z = go (even-test s) (over-room e (beside s)) refl refl
+  where
+    at : {b o : Bool} → even-test s ≡ b → over-room e (beside s) ≡ o → (ordered b o) .number ≡ 0
+    at p q = ap (λ (r : Refusal). r .number) (sym (by-tests e s p q)) ∙ z
+
+    go : (b o : Bool) → even-test s ≡ b → over-room e (beside s) ≡ o → EvenShown s × ¬ OverRoom e (beside s)
+    go true true p q = absurd (let n = at p q in omega arith)
+    go true false p q = (even-passed s p, λ x. false≢true (sym q ∙ (over-iff e (beside s)) .1 x))
+    go false o p q = absurd (let n = at p q in omega arith)
+
+pub fits : (e : Expression) (s : Shown) → EvenShown s → ¬ OverRoom e (beside s) → site-refusal e s ≡ success
+unfolding ordered
+fits e s v n = by-tests e s (even-passes s v) (not-so (over-room e (beside s)) (λ p. n ((over-iff e (beside s)) .0 p)))
+
 -- The answer's refusal is the expression's.
-refusal-of : (e : Expression) (s : Shown) → (answered (read e) s) .refusal ≡ site-refusal e s
+pub refusal-of : (e : Expression) (s : Shown) → (answered (read e) s) .refusal ≡ site-refusal e s
 unfolding ordered needs
 refusal-of e s = go (ℕ-discrete ((site-refusal e s) .number) 0)
   where
@@ -90,16 +108,20 @@ refusal-of e s = go (ℕ-discrete ((site-refusal e s) .number) 0)
 
 -- ---- The demand
 
+-- A text that is not read is refused with a number.
+pub unread-some : {text : Text} {r : Refusal} → Due text entry-columns (refused r) → ¬ (r .number ≡ 0)
+unread-some d z = let x = expressed d z in let no : _≡_ {A = ℕ} 0 1 = told-apart (x .is) in omega arith
+  where
+    told-apart : {r : Refusal} {e : Expression} → refused r ≡ read e → _≡_ {A = ℕ} 0 1
+    told-apart q = cc
+
 module _ {text : Text} {s : Shown} where
-  caused : (q : Reading) → Due text entry-columns q → SiteCause text s ((answered q s) .refusal)
+  pub caused : (q : Reading) → Due text entry-columns q → SiteCause text s ((answered q s) .refusal)
   unfolding answered
   caused (read e) d = rw (refusal-of e s) (caused-by e s (due-written d))
-  caused (refused r) d = unread (reader-caused d) (λ z. let x = expressed d z in let no : _≡_ {A = ℕ} 0 1 = told-apart (x .is) in omega arith)
-    where
-      told-apart : {r : Refusal} {e : Expression} → refused r ≡ read e → _≡_ {A = ℕ} 0 1
-      told-apart q = cc
+  caused (refused r) d = unread (reader-caused d) (unread-some d)
 
-  due : {r : Refusal} (q : Reading) → Due text entry-columns q → SiteCause text s r → (answered q s) .refusal ≡ r
+  pub due : {r : Refusal} (q : Reading) → Due text entry-columns q → SiteCause text s r → (answered q s) .refusal ≡ r
   unfolding answered ordered
   due (read e) d (unread c n) = absurd (n (ap (λ (r : Refusal). r .number) (sym (reader-due d c))))
   due (refused r) d (unread c n) = reader-due d c
@@ -112,6 +134,22 @@ module _ {text : Text} {s : Shown} where
       ap (λ q. (answered q s) .refusal) (due-once d (written-due w)) ∙ refusal-of e s
       ∙ by-tests e s (even-passes s v) (not-so (over-room e (beside s)) (λ p. n ((over-iff e (beside s)) .0 p)))
 
+-- The numbers are below 16, and 10 is none of them.
+reader-number : {text : Text} {r : Refusal} → reader.ReaderCause text entry-columns r → (r .number < 16) × ¬ (r .number ≡ 10)
+reader-number (reader.differ n) = (omega arith, λ z. omega arith)
+reader-number (reader.long v l) = (omega arith, λ z. omega arith)
+reader-number (reader.broken p r v) = (omega arith, λ z. omega arith)
+reader-number (reader.stopped l p n) = (omega arith, λ z. omega arith)
+reader-number (reader.deep p r v l) = (omega arith, λ z. omega arith)
+reader-number (reader.many p r v l) = (omega arith, λ z. omega arith)
+reader-number (reader.none e w) = (omega arith, λ z. omega arith)
+
+pub site-number : {text : Text} {s : Shown} {r : Refusal} → SiteCause text s r → (r .number < 16) × ¬ (r .number ≡ 10)
+site-number (unread c n) = reader-number c
+site-number (differ e w n) = (omega arith, λ z. omega arith)
+site-number (room e w v o) = (omega arith, λ z. omega arith)
+site-number (none e w v n) = (omega arith, λ z. omega arith)
+
 nothing-left : (s : Shown) (q : Reading) → ¬ ((answered q s) .refusal .number ≡ 0)
     → (answered q s ≡ withheld ((answered q s) .refusal)) × (left-in q s ≡ blank s)
 unfolding answered left-in
@@ -123,6 +161,7 @@ nothing-left s (refused r) n = (refl, refl)
 pub site-meets : {text : Text} {s : Shown} {answer : Answer} {s′ : Shown} → Made text s answer s′ → SiteMeets text s answer s′
 site-meets {text} {s} {answer} h = record {
   exact = exactly (SiteCause text s) (ap (λ (a : Answer). a .refusal) (h .answers)) (caused (h .reading) (h .due)) (λ r. due (h .reading) (h .due));
+  numbered = let l = site-number {s = s} (caused (h .reading) (h .due)) .0 in omega (arith, ap (λ (a : Answer). a .refusal .number) (h .answers));
   counts = λ n. h .answers ∙ nothing-left s (h .reading) (again n) .0 ∙ ap (λ (a : Answer). withheld (a .refusal)) (sym (h .answers));
   columns = λ n. h .leaves ∙ nothing-left s (h .reading) (again n) .1;
 }

@@ -4,10 +4,9 @@ use Prim.Native.Nat.{ℕ}
 use mathlib.Core.Bool.{Bool, true, false, _&&_}
 use mathlib.Core.List.{List, [], _∷_}
 use lib.ListN.{length}
-use lib.Dec.{eqb}
+use lib.Dec.{T, eqb}
 use Rattle.theory.specs.Column.{zeros}
-use Rattle.theory.specs.Limit.{most-entries}
-use Rattle.theory.specs.Refusal.{Refusal, refusal, success, room-small}
+use Rattle.theory.specs.Refusal.{Refusal, refusal, success}
 use Rattle.theory.specs.Automaton.{states, expressions, arcs}
 use Rattle.theory.specs.Table.{Table, table, columns, tree, table-refusal}
 use Rattle.theory.specs.Grammar.{Text, Reading, read, refused, rows}
@@ -64,7 +63,7 @@ holds-of (with-states room r) t = same-refusal (build-refusal t (with-room room)
 unfoldable pub all-hold : List Line → Bool
 unfolding table-of holds-of scan
 all-hold [] = true
-all-hold (l ∷ ls) = holds-of (l .claim) (table-of (scan most-entries (l .text))) && all-hold ls
+all-hold (l ∷ ls) = holds-of (l .claim) (table-of (scan 512 (l .text))) && all-hold ls
 
 unfoldable pub examples : List Line
 examples =
@@ -90,6 +89,10 @@ examples =
     -- ((a+1)&(b+1))*
     ∷ (40 ∷ 40 ∷ 97 ∷ 43 ∷ 49 ∷ 41 ∷ 38 ∷ 40 ∷ 98 ∷ 43 ∷ 49 ∷ 41 ∷ 41 ∷ 42 ∷ []) claims needs 3 9 8 (97 ∷ 98 ∷ []) accepted 2
     -- (a&b) with state room 3, and with 4
-    ∷ (40 ∷ 97 ∷ 38 ∷ 98 ∷ 41 ∷ []) claims with-states 3 (refusal room-small 0)
+    ∷ (40 ∷ 97 ∷ 38 ∷ 98 ∷ 41 ∷ []) claims with-states 3 (refusal 9 0)
     ∷ (40 ∷ 97 ∷ 38 ∷ 98 ∷ 41 ∷ []) claims with-states 4 success
     ∷ []
+
+-- "Proved together as a single table with one claim about it".
+pub record ExamplesHold : Type 0 where
+  pub all : T (all-hold examples)

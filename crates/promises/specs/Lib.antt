@@ -2,7 +2,10 @@ pub mod Reader
 pub mod Table
 pub mod Builder
 pub mod Matcher
+pub mod Words
 pub mod JudgesSo
+pub mod Numbers
+pub mod Tables
 pub mod Examples
 pub mod Printed
 pub mod Mistakes

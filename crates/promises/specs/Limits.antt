@@ -4,9 +4,8 @@ use Prim.Native.Nat.{ℕ}
 use mathlib.Core.Bool.{Bool, true, _&&_}
 use mathlib.Core.List.{List, [], _∷_, _++_, flatMap}
 use lib.ListN.{replicate}
-use lib.Dec.{eqb}
-use Rattle.theory.specs.Limit.{most-entries}
-use Rattle.theory.specs.Refusal.{Refusal, refusal, success, not-grammar, too-deep, too-many-entries}
+use lib.Dec.{T, eqb}
+use Rattle.theory.specs.Refusal.{Refusal, refusal, success}
 use Rattle.theory.specs.Expression.{entries}
 use Rattle.theory.specs.Grammar.{Text}
 use Rattle.theory.specs.Scan.{scan}
@@ -29,7 +28,7 @@ keeps l a = same-refusal (a .refusal) (l .refusal) && eqb (a .entries) (l .entri
 unfoldable pub all-keep : List Limit → Bool
 unfolding keeps scan entries
 all-keep [] = true
-all-keep (l ∷ ls) = keeps l (entered (scan most-entries (l .text))) && all-keep ls
+all-keep (l ∷ ls) = keeps l (entered (scan 512 (l .text))) && all-keep ls
 
 -- a under n stars
 abbrev starred : ℕ → Text
@@ -43,14 +42,18 @@ unfoldable pub limits : List Limit
 unfolding flatMap
 limits =
     starred 511 gives success entries 512
-    ∷ starred 512 gives refusal too-many-entries 512 entries 0
-    ∷ [] gives refusal not-grammar 0 entries 0
+    ∷ starred 512 gives refusal 15 512 entries 0
+    ∷ [] gives refusal 13 0 entries 0
     -- (a)
-    ∷ (40 ∷ 97 ∷ 41 ∷ []) gives refusal not-grammar 2 entries 0
+    ∷ (40 ∷ 97 ∷ 41 ∷ []) gives refusal 13 2 entries 0
     -- 0*
-    ∷ (48 ∷ 42 ∷ []) gives refusal not-grammar 1 entries 0
+    ∷ (48 ∷ 42 ∷ []) gives refusal 13 1 entries 0
     -- (a&b&c)
-    ∷ (40 ∷ 97 ∷ 38 ∷ 98 ∷ 38 ∷ 99 ∷ 41 ∷ []) gives refusal not-grammar 4 entries 0
+    ∷ (40 ∷ 97 ∷ 38 ∷ 98 ∷ 38 ∷ 99 ∷ 41 ∷ []) gives refusal 13 4 entries 0
     ∷ nested 64 gives success entries 129
-    ∷ nested 65 gives refusal too-deep 64 entries 0
+    ∷ nested 65 gives refusal 14 64 entries 0
     ∷ []
+
+-- One claim about the table of texts.
+pub record LimitsKeep : Type 0 where
+  pub all : T (all-keep limits)

@@ -4,7 +4,7 @@ use Prim.Native.Nat.{ℕ}
 use mathlib.Core.Path.{_≡_}
 use mathlib.Core.Logic.{_⊎_}
 use mathlib.Core.List.{List, [], _∷_, _++_}
-use Rattle.theory.specs.Expression.{Expression, ∅, ε, letter, binary, concatenation, shuffle}
+use Rattle.theory.specs.Expression.{Expression, ∅, ε, letter, binary, star, union, concatenation, shuffle}
 use Rattle.theory.specs.Refusal.{refusal, text-long}
 use Rattle.theory.specs.Record.{automaton, verdict, live}
 use Rattle.theory.specs.Lines.{space, newline, number-and, listing, verdict-line, refusal-line}
@@ -18,6 +18,14 @@ pub record Printed : Type 0 where
   pub two-letters : listing (binary shuffle (letter 97) (letter 98))
       ≡ 48 ∷ 32 ∷ 49 ∷ 32 ∷ 57 ∷ 55 ∷ 10 ∷ 48 ∷ 32 ∷ 50 ∷ 32 ∷ 57 ∷ 56 ∷ 10 ∷ 49 ∷ 32 ∷ 51 ∷ 32 ∷ 57 ∷ 56 ∷ 10
       ∷ 50 ∷ 32 ∷ 51 ∷ 32 ∷ 57 ∷ 55 ∷ 10 ∷ 51 ∷ 10 ∷ []
+  -- `((a+1)&(b+1))*`: 0 1 97, 0 2 98, then state 1 and state 2, each with "members in list order", then the three states, all accepting
+  pub listed-in-order : listing (star (binary shuffle (binary union (letter 97) ε) (binary union (letter 98) ε)))
+      ≡ 48 ∷ 32 ∷ 49 ∷ 32 ∷ 57 ∷ 55 ∷ 10 ∷ 48 ∷ 32 ∷ 50 ∷ 32 ∷ 57 ∷ 56 ∷ 10
+      -- 1 1 97, 1 0 98, 1 2 98
+      ∷ 49 ∷ 32 ∷ 49 ∷ 32 ∷ 57 ∷ 55 ∷ 10 ∷ 49 ∷ 32 ∷ 48 ∷ 32 ∷ 57 ∷ 56 ∷ 10 ∷ 49 ∷ 32 ∷ 50 ∷ 32 ∷ 57 ∷ 56 ∷ 10
+      -- 2 0 97, 2 1 97, 2 2 98
+      ∷ 50 ∷ 32 ∷ 48 ∷ 32 ∷ 57 ∷ 55 ∷ 10 ∷ 50 ∷ 32 ∷ 49 ∷ 32 ∷ 57 ∷ 55 ∷ 10 ∷ 50 ∷ 32 ∷ 50 ∷ 32 ∷ 57 ∷ 56 ∷ 10
+      ∷ 48 ∷ 10 ∷ 49 ∷ 10 ∷ 50 ∷ 10 ∷ []
   -- "For `0` nothing is printed; for `1`, `0`."
   pub empty-language : listing ∅ ≡ []
   pub empty-word : listing ε ≡ 48 ∷ 10 ∷ []

@@ -2,7 +2,7 @@
 -- columns that the reader filled"; and the tree of that table is the expression that the text writes.
 use mathlib.Core.Path.{_≡_}
 use mathlib.Core.Logic.{_⊎_}
-use Rattle.theory.specs.Refusal.{success, room-small}
+use Rattle.theory.specs.Refusal.{success}
 use Rattle.theory.specs.Table.{Table, tree, table-refusal}
 use Rattle.theory.specs.Grammar.{Text, written, Writable}
 use Rattle.theory.specs.Build.{Lent, Counts, Built, EvenLent}
@@ -14,4 +14,4 @@ pub record ReadThenBuild (text : Text) (g : Table) : Type 0 where
   pub spelled : written (tree g) ≡ text
   -- With even columns lent, a build can be refused for room alone.
   pub builds : {c : Lent} {answer : Counts} {c′ : Lent} → EvenLent c → Built g c answer c′
-      → (answer .refusal .number ≡ 0) ⊎ (answer .refusal .number ≡ room-small)
+      → (answer .refusal .number ≡ 0) ⊎ (answer .refusal .number ≡ 9)

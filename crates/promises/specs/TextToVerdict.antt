@@ -7,9 +7,9 @@ use Rattle.theory.specs.Table.{Table}
 use Rattle.theory.specs.Grammar.{Text, written, Writable}
 use Rattle.theory.specs.Read.{Read, Entered, filled-part}
 use Rattle.theory.specs.Build.{Lent, Counts, Built}
-use Rattle.theory.specs.Record.{Work, LongEnough}
+use Rattle.theory.specs.Record.{Work}
 use Rattle.theory.specs.Judge.{Judgement, Judged}
-use Rattle.promises.specs.Matcher.{after-build}
+use Rattle.promises.specs.Matcher.{TooShort, after-build}
 
 -- A text is read, the table that it gives is built, and the record w is judged over what was built, with enough words lent; nothing is refused.
 pub record Run (text : Text) (w : Word) (answer : Judgement) : Type 0 where
@@ -26,7 +26,7 @@ pub record Run (text : Text) (w : Word) (answer : Judgement) : Type 0 where
   pub work : Work
   pub work-left : Work
   pub judges : Judged (after-build counts tables) w work answer work-left
-  pub enough : LongEnough work (counts .states)
+  pub enough : ¬ TooShort work (counts .states)
 
 -- The record is accepted exactly when it belongs to the language of the expression that the text writes.
 pub record TextToVerdict : Type 0 where

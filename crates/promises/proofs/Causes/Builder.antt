@@ -5,14 +5,14 @@ use native.Mathlib.Omega.{arith}
 use mathlib.Core.Path.{_≡_, refl, sym, ap, _∙_}
 use mathlib.Core.Bool.{Bool, true, false, cond, false≢true}
 use Rattle.theory.specs.Refusal.{Refusal, refusal, success, or-else, room-small}
-use Rattle.theory.specs.Table.{Table, tree, WellFormed}
+use Rattle.theory.specs.Table.{Table, tree}
 use Rattle.theory.specs.Automaton.{states, arcs, expressions}
 use Rattle.theory.specs.Build.{Lent, Counts, counts, Built, even, over-room, build-refusal, EvenLent}
 use Rattle.theory.proofs.Tests.{false-of}
 use Rattle.theory.proofs.Answers.{counts-built, counts-refused}
 use Rattle.theory.proofs.BuilderRefusal.{even-iff, over-iff, ordered, refusal-by}
 use Rattle.promises.specs.Table as Tables
-use Rattle.promises.specs.Table.{TableCause}
+use Rattle.promises.specs.Table.{WellFormed, TableCause}
 use Rattle.promises.specs.Builder.{BuilderCause, differ, table, room, none, BuilderMeets}
 use Rattle.promises.proofs.Causes.Exactly.{exactly}
 use Rattle.promises.proofs.Causes.Table.{stands, table-clear, table-caused, table-due, table-numbered}

@@ -16,10 +16,11 @@ use Rattle.theory.specs.Judge.{Judgement, Judged, judgement, given}
 use Rattle.theory.proofs.Answers.{judgement-given, judgement-refused}
 use Rattle.theory.proofs.Arcs.{even-arcs-iff}
 use Rattle.theory.proofs.Below.{each-below}
-use Rattle.theory.proofs.Tests.{false-of, true-of}
-use Rattle.theory.proofs.MatcherRefusal.{well-formed-iff, short-iff, ordered, refusal-by}
+use Rattle.theory.proofs.Tests.{false-of}
+use Rattle.theory.proofs.MatcherRefusal.{well-formed-iff, ordered, refusal-by}
 use Rattle.promises.specs.Matcher as Causes
 use Rattle.promises.specs.Matcher.{Malformed, no-state, many-states, states-beyond, arcs-beyond, many-arcs, accepting-value, from-beyond, to-beyond, letter-zero, MatcherCause, differ, malformed, none, MatcherMeets}
+use Rattle.promises.proofs.Words.{short-is}
 use Rattle.promises.proofs.Causes.Exactly.{exactly}
 
 -- ---- Refusal 10
@@ -96,15 +97,16 @@ module _ (h : Handed) (k : Work) where
       go false good few e w s = differ (λ v. false≢true (sym e ∙ (even-arcs-iff _) .1 v))
       go true false few e w s = malformed ((even-arcs-iff _) .0 e) (malformed-found h w)
       go true true true e w s =
-          Causes.short ((even-arcs-iff _) .0 e) (never-malformed h ((well-formed-iff h) .0 w)) (λ l. false≢true (sym ((short-iff k (h .states)) .1 l) ∙ s))
-      go true true false e w s = none ((even-arcs-iff _) .0 e) (never-malformed h ((well-formed-iff h) .0 w)) ((short-iff k (h .states)) .0 s)
+          Causes.short ((even-arcs-iff _) .0 e) (never-malformed h ((well-formed-iff h) .0 w)) ((short-is k (h .states)) .0 s)
+      go true true false e w s =
+          none ((even-arcs-iff _) .0 e) (never-malformed h ((well-formed-iff h) .0 w)) (λ l. false≢true (sym s ∙ (short-is k (h .states)) .1 l))
 
   pub matcher-due : {r : Refusal} → MatcherCause h k r → matcher-refusal h k ≡ r
   matcher-due (differ n) = refusal-by h k (false-of _ (λ e. n ((even-arcs-iff _) .0 e))) refl refl
   matcher-due (malformed v m) = refusal-by h k ((even-arcs-iff _) .1 v) (false-of _ (λ w. never-malformed h ((well-formed-iff h) .0 w) m)) refl
   matcher-due (Causes.short v n l) =
-      refusal-by h k ((even-arcs-iff _) .1 v) (formed h n) (true-of _ (λ s. l ((short-iff k (h .states)) .0 s)))
-  matcher-due (none v n l) = refusal-by h k ((even-arcs-iff _) .1 v) (formed h n) ((short-iff k (h .states)) .1 l)
+      refusal-by h k ((even-arcs-iff _) .1 v) (formed h n) ((short-is k (h .states)) .1 l)
+  matcher-due (none v n l) = refusal-by h k ((even-arcs-iff _) .1 v) (formed h n) (false-of _ (λ s. l ((short-is k (h .states)) .0 s)))
 
   pub matcher-numbered : {r : Refusal} → MatcherCause h k r → r .number ≤ work-short
   matcher-numbered (differ n) = omega arith

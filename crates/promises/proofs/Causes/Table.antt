@@ -11,7 +11,7 @@ use borrow.Author.Tests.{eqb-true, eqb-false, eq-eqb, ne-eqb, ltb-true, ltb-fals
 use Rattle.theory.specs.Kind as Kind
 use Rattle.theory.specs.Limit.{most-entries}
 use Rattle.theory.specs.Refusal.{Refusal, refusal, success, or-else, kind-unknown, field-outside, child-not-smaller, empty-language-inside}
-use Rattle.theory.specs.Table.{Table, Row, row, size, meaning, children, fields-fit, row-children, all-smaller, entry-fault, naming-fault, first-fault, table-refusal, SameLengths, Faultless, WellFormed}
+use Rattle.theory.specs.Table.{Table, Row, row, size, meaning, children, fields-fit, row-children, all-smaller, entry-fault, naming-fault, first-fault, table-refusal, SameLengths}
 use Rattle.theory.proofs.Tests.{false-of, true-of}
 use Rattle.theory.proofs.TableRefusal.{refused-differ, refused-empty, refused-long, refused-later}
 use Rattle.theory.proofs.Times.{fault-none, fault-found, once-of}
@@ -19,8 +19,9 @@ use Rattle.theory.proofs.FirstFound.{Scanned, clean, faulty, scanned, scanned-o
 use Rattle.theory.proofs.WellFormed.{smaller-of}
 use Rattle.table.specs.Checked as check
 use Rattle.table.specs.declared.Checked.{Checked}
+use Rattle.promises.proofs.Tested.{fits, tested, known, children-are}
 use Rattle.promises.proofs.Causes.Exactly.{exactly}
-use Rattle.promises.specs.Table.{TableMeets, EntryCause, unknown, outside, not-smaller, inside, Sized, FaultlessBefore, NamedOnce, TableCause, differ, empty, long, entry, not-once, none}
+use Rattle.promises.specs.Table.{Faultless, WellFormed, TableMeets, EntryCause, unknown, outside, not-smaller, inside, Sized, FaultlessBefore, NamedOnce, TableCause, differ, empty, long, entry, not-once, none}
 
 -- ---- One entry
 
@@ -50,22 +51,22 @@ module _ (n i : ℕ) (w : Row) where
       go (ltb Kind.last (w .kind)) (fields-fit (meaning (w .kind)) (w .left) (w .right)) (all-smaller i (row-children w)) (eqb (w .kind) 0) (ltb 1 n) refl
       refl refl refl refl
     where
+      found : w .kind ≤ 6 → fields-fit (meaning (w .kind)) (w .left) (w .right) ≡ true → all-smaller i (row-children w) ≡ true → (w .kind ≡ 0 → n ≤ 1)
+          → Faultless n i w
+      found l f e a = record { fits = fits w l f; smaller = λ c m. smaller-of i (row-children w) e c ((children-are w c) .1 m); alone = a }
+
       go : (a b c d e : Bool) → ltb Kind.last (w .kind) ≡ a → fields-fit (meaning (w .kind)) (w .left) (w .right) ≡ b → all-smaller i (row-children w) ≡ c
           → eqb (w .kind) 0 ≡ d → ltb 1 n ≡ e → Examined n i w (ordered a b c d e)
-      go true b c d e p q r s u = wrong (unknown (ltb-true Kind.last (w .kind) p)) (λ z. omega arith)
-      go false false c d e p q r s u = wrong (outside (ltb-false Kind.last (w .kind) p) (λ f. false≢true (sym q ∙ f))) (λ z. omega arith)
+      go true b c d e p q r s u = wrong (unknown (ltb-true 6 (w .kind) p)) (λ z. omega arith)
+      go false false c d e p q r s u = wrong (outside (ltb-false 6 (w .kind) p) (λ f. false≢true (sym q ∙ tested w f))) (λ z. omega arith)
       go false true false d e p q r s u =
-          let (c, m, l) = larger-found i (row-children w) r in wrong (not-smaller (ltb-false Kind.last (w .kind) p) q c m l) (λ z. omega arith)
-      go false true true true true p q r s u = wrong (inside (eqb-true (w .kind) 0 s) q (ltb-true 1 n u)) (λ z. omega arith)
+          let (c, m, l) = larger-found i (row-children w) r in
+          wrong (not-smaller (fits w (ltb-false 6 (w .kind) p) q) c ((children-are w c) .0 m) l) (λ z. omega arith)
+      go false true true true true p q r s u = wrong (inside (eqb-true (w .kind) 0 s) (fits w (ltb-false 6 (w .kind) p) q) (ltb-true 1 n u)) (λ z. omega arith)
       go false true true true false p q r s u =
-          right (record { known = ltb-false Kind.last (w .kind) p; fits = q; smaller = smaller-of i (row-children w) r; alone = λ _. ltb-false 1 n u })
+          right (found (ltb-false 6 (w .kind) p) q r (λ _. ltb-false 1 n u))
       go false true true false e p q r s u =
-          right (record {
-            known = ltb-false Kind.last (w .kind) p;
-            fits = q;
-            smaller = smaller-of i (row-children w) r;
-            alone = λ k. absurd (eqb-false (w .kind) 0 s k);
-          })
+          right (found (ltb-false 6 (w .kind) p) q r (λ k. absurd (eqb-false (w .kind) 0 s k)))
 
   due : {a b c d e : Bool} → ltb Kind.last (w .kind) ≡ a → fields-fit (meaning (w .kind)) (w .left) (w .right) ≡ b → all-smaller i (row-children w) ≡ c
       → eqb (w .kind) 0 ≡ d → ltb 1 n ≡ e → entry-fault n i w ≡ ordered a b c d e
@@ -78,25 +79,30 @@ module _ (n i : ℕ) (w : Row) where
 
   fault-due : {k : ℕ} → EntryCause n i w k → entry-fault n i w ≡ k
   unfolding ordered meaning row-children children
-  fault-due (unknown l) = due (lt-ltb Kind.last (w .kind) l) refl refl refl refl
-  fault-due (outside l f) = due (le-ltb Kind.last (w .kind) l) (false-of _ f) refl refl refl
-  fault-due (not-smaller l f c m b) =
-      due (le-ltb Kind.last (w .kind) l) f (false-of _ (λ e. let k = smaller-of i (row-children w) e c m in omega arith)) refl refl
+  fault-due (unknown l) = due (lt-ltb 6 (w .kind) l) refl refl refl refl
+  fault-due (outside l f) = due (le-ltb 6 (w .kind) l) (false-of _ (λ e. f (fits w l e))) refl refl refl
+  fault-due (not-smaller f c m b) =
+      due (le-ltb 6 (w .kind) (known w f)) (tested w f)
+      (false-of _ (λ e. let k = smaller-of i (row-children w) e c ((children-are w c) .1 m) in omega arith)) refl refl
   fault-due (inside z f l) =
-      due (le-ltb Kind.last (w .kind) (omega arith)) f (smaller-passes (λ c m. absurd (List·Memᴰ·not-nil (rw z at m)))) (eq-eqb (w .kind) 0 z) (lt-ltb 1 n l)
+      due (le-ltb 6 (w .kind) (omega arith)) (tested w f) (smaller-passes (λ c m. absurd (List·Memᴰ·not-nil (rw z at m)))) (eq-eqb (w .kind) 0 z)
+      (lt-ltb 1 n l)
 
   none-due : Faultless n i w → entry-fault n i w ≡ 0
   unfolding ordered
   none-due h = go (ℕ-discrete (w .kind) 0)
     where
+      smaller : all-smaller i (row-children w) ≡ true
+      smaller = smaller-passes (λ c m. h .smaller c ((children-are w c) .0 m))
+
       go : Dec (w .kind ≡ 0) → entry-fault n i w ≡ 0
-      go (yes z) = due (le-ltb Kind.last (w .kind) (h .known)) (h .fits) (smaller-passes (h .smaller)) (eq-eqb (w .kind) 0 z) (le-ltb 1 n (h .alone z))
-      go (no f) = due (le-ltb Kind.last (w .kind) (h .known)) (h .fits) (smaller-passes (h .smaller)) (ne-eqb (w .kind) 0 f) refl
+      go (yes z) = due (le-ltb 6 (w .kind) (known w (h .fits))) (tested w (h .fits)) smaller (eq-eqb (w .kind) 0 z) (le-ltb 1 n (h .alone z))
+      go (no f) = due (le-ltb 6 (w .kind) (known w (h .fits))) (tested w (h .fits)) smaller (ne-eqb (w .kind) 0 f) refl
 
   a-fault : {k : ℕ} → EntryCause n i w k → k ≡ 0 → ⊥
   a-fault (unknown l) z = omega arith
   a-fault (outside l f) z = omega arith
-  a-fault (not-smaller l f c m b) z = omega arith
+  a-fault (not-smaller f c m b) z = omega arith
   a-fault (inside z f l) q = omega arith
 
 -- ---- The whole table
@@ -123,7 +129,7 @@ module _ (g : Table) where
 
   named-caused : {r : Refusal} → Sized g → FaultlessBefore g (size g) → Scanned (naming-fault g) (pred (size g)) r → TableCause g r
   named-caused v h (clean o) =
-      none (record { lengths = v .even; nonempty = v .nonempty; short = v .short; faultless = h; once = λ i l. once-of g i (o i l) })
+      none (record { sized = v; faultless = h; once = λ i l. once-of g i (o i l) })
   named-caused v h (faulty p l b f) =
       let n : ¬ NamedOnce g p = λ o. f (fault-none g p o) in
       rw (fault-found g p n) (not-once v h p l (λ i m. once-of g i (b i m)) n)
@@ -181,8 +187,7 @@ module _ (g : Table) where
       later-due v (clean (none-before (size g) h)) (faulty p l (λ i m. fault-none g i (o i m)) (λ z. n (once-of g p z)))
       ∙ ap (λ (k : ℕ). refusal k p) (fault-found g p n)
   table-due (none w) =
-      later-due (record { even = w .lengths; nonempty = w .nonempty; short = w .short }) (clean (none-before (size g) (w .faultless)))
-      (clean (λ i l. fault-none g i (w .once i l)))
+      later-due (w .sized) (clean (none-before (size g) (w .faultless))) (clean (λ i l. fault-none g i (w .once i l)))
 
   pub table-numbered : {r : Refusal} → TableCause g r → r .number ≤ 8
   table-numbered (differ n) = omega arith
@@ -190,7 +195,7 @@ module _ (g : Table) where
   table-numbered (long v l) = omega arith
   table-numbered (entry v p l h (unknown a)) = omega arith
   table-numbered (entry v p l h (outside a f)) = omega arith
-  table-numbered (entry v p l h (not-smaller a f c m b)) = omega arith
+  table-numbered (entry v p l h (not-smaller f c m b)) = omega arith
   table-numbered (entry v p l h (inside z f a)) = omega arith
   table-numbered (not-once v h p l o n) = omega arith
   table-numbered (none w) = omega arith
