@@ -148,6 +148,12 @@ def random_text(rng):
     return (damaged(rng, text) if rng.random() < 0.2 else text), expression
 
 
+def good_text(rng, kinds=(few_entries, some_entries, shuffled_parts)):
+    """A text as it was written, of few enough entries that it is seldom refused, and its expression."""
+    expression = rng.choice(kinds)(rng)
+    return written(expression).encode(), expression
+
+
 def limit_texts():
     """Texts at the limits of 01 and just past them, each with an expression for its records."""
     for text in ['', '0', '1', 'a', 'Z', '0*', '00', '01', '(0.a)', '(a.0)', '(a)', '()', '(', ')', '*', 'a*b', 'ab',

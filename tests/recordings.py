@@ -99,3 +99,33 @@ def records_input(rng, text, x, count):
 
 def listing_input(rng, text):
     return text + rng.choice([b'', b'\n', b'\n', b'\n\n', b'\nab\n', b'\n(a', b'\n*'])
+
+
+def short_record(rng, letters):
+    return ''.join(rng.choices(letters, k=rng.randint(0, 4))).encode()
+
+
+def many_records_input(rng, text, x):
+    """Over 600 records: short ones in plenty, those of the other inputs, or these with two dozen long ones among them."""
+    letters = letters_of(x)
+    how = rng.randrange(3)
+    if how == 0:
+        records = [short_record(rng, letters) for _ in range(rng.randint(3000, 6000))]
+    else:
+        records = [random_record(rng, x, letters) for _ in range(rng.randint(601, 1500))]
+    if how == 2:
+        records += [long_record(rng, x, letters) for _ in range(24)]
+        rng.shuffle(records)
+    return b'\n'.join([text, *(record.replace(b'\n', b'\0') for record in records)]) + rng.choice([b'x', b'\n'])
+
+
+def input_to_cut(rng, text, x, size, longer, ending):
+    """Records until there are so many bytes, with a line of over 4,096 bytes among them if asked for; the last one has a byte."""
+    letters = letters_of(x)
+    records = []
+    while sum(map(len, records)) + len(records) < size:
+        records.append(random_record(rng, x, letters))
+    if longer:
+        records.insert(rng.randint(0, len(records)), letters[0].encode() * rng.randint(MOST_BYTES + 1, 9000))
+    lines = [text, *(record.replace(b'\n', b'\0') for record in records), short_record(rng, letters) + letters[0].encode()]
+    return b'\n'.join(lines) + ending

@@ -28,12 +28,16 @@ def halved(given):
             yield given[:start] + given[sign + 1:place] + given[place + 1:]
 
 
-def shrunk(given, differs):
+BYTES = [lambda given: dropped(given.splitlines(keepends=True), b''.join),
+         lambda given: sorted(halved(given), key=len), lambda given: dropped(given, bytes)]
+PIECES = [lambda pieces: dropped(pieces, list)]
+
+
+def shrunk(given, differs, ways):
     """The input, shorter while `differs` still says so; the ways to shorten it are tried by turns
     until none helps or the time is spent."""
     end = time.monotonic() + SHRINK_SECONDS
-    ways = [lambda given: dropped(given.splitlines(keepends=True), b''.join),
-            lambda given: sorted(halved(given), key=len), lambda given: dropped(given, bytes)]
+    ways = list(ways)
     idle = 0
     while idle < len(ways):
         way = ways.pop(0)

@@ -1,5 +1,6 @@
-// Prints what the public calls answer at each of 01's limits and for each cause of a refusal.
+// Prints what the public calls answer at each of 01's limits, for each cause of a refusal and for each kind of entry.
 
+mod kinds;
 mod lines;
 mod records;
 mod tables;
@@ -9,4 +10,5 @@ fn main() {
     texts::all();
     records::all();
     tables::all();
+    kinds::all();
 }

@@ -11,7 +11,7 @@ fn line(number: u8, verdict: usize, place: usize, live: usize) {
     super::lines::end();
 }
 
-fn show(judgement: matcher::Judgement) {
+pub(crate) fn show(judgement: matcher::Judgement) {
     match judgement {
         matcher::Judgement::Refused { number } => line(number, 0, 0, 0),
         matcher::Judgement::Accepted { live } => line(0, 1, 0, live),

@@ -13,7 +13,7 @@ fn line(number: u8, place: usize, states: usize, expressions: usize, arcs: usize
     super::lines::end();
 }
 
-fn show(building: Building) {
+pub(crate) fn show(building: Building) {
     match building {
         Building::Refused { number, place } => line(number, place, 0, 0, 0),
         Building::Built {
