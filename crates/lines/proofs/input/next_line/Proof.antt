@@ -65,7 +65,8 @@ unpassed c = let r = called (c .before .before) in without-rest (filled (full r)
 pub next-line-spec : {M : Type 1} → statement M
 next-line-spec =
     tie.close
-    (tie.spec (λ c κs. search needs) (λ c. search needs) (λ c. search needs) (λ c. search needs) (λ c. search needs) (λ c κs. filled (c .before .before) .holds .0)
+    (tie.spec (λ c κs. search needs) (λ c. search needs) (λ c. search needs) (λ c. search needs) (λ c. search needs)
+    (λ c κs. filled (c .before .before) .holds .0)
     (λ c. search needs) (λ c. search needs) (λ c. search needs) (λ c. search needs) none
     (λ c. search needs) (λ c. search needs) ended (λ c. search needs) (λ c. search needs) failed
     (λ c. search needs) (λ c. search needs) passed (λ c. search needs) (λ c. search needs) unpassed)

@@ -36,4 +36,5 @@ after-read c =
 pub take-byte-spec : {M : Type 1} → statement M
 take-byte-spec =
     tie.close
-    (tie.spec (λ c. search needs) (λ c. search needs) here (λ c κs. search needs) (λ c. search needs) (λ c. search needs) (λ c. search needs) some-came (λ c. search needs) (λ c. search needs) (λ c. search needs) (λ c. search needs) (λ c. search needs) after-read)
+    (tie.spec (λ c. search needs) (λ c. search needs) here (λ c κs. search needs) (λ c. search needs) (λ c. search needs) (λ c. search needs)
+    some-came (λ c. search needs) (λ c. search needs) (λ c. search needs) (λ c. search needs) (λ c. search needs) after-read)
