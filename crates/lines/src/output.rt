@@ -52,15 +52,22 @@ pub enum Written {
     Failed,
 }
 
-// Whatever a program answers goes out by this one call.
-pub fn write(bytes: &[u8]) -> Written
+// Whatever a program says goes out by this one call.
+fn hand_over(stream: i32, bytes: &[u8]) -> Written
     ensures { λ r. ⌜ Wrote (length (now (bytes .entry))) r ⌝ }
 {
-    if io::write_all(libc::STDOUT_FILENO, bytes) {
+    if io::write_all(stream, bytes) {
         Written::All { count: bytes.len() }
     } else {
         Written::Failed
     }
+}
+
+// What a program answers.
+pub fn write(bytes: &[u8]) -> Written
+    ensures { λ r. ⌜ Wrote (length (now (bytes .entry))) r ⌝ }
+{
+    hand_over(libc::STDOUT_FILENO, bytes)
 }
 
 pub enum Room {
@@ -87,10 +94,14 @@ pub fn with_room(block: &[u8], used: usize, waits: bool) -> Room
 }
 
 // A program has no exit status: a read or a write that fails is told on standard error.
-pub fn tell_read_failed() {
-    io::write_all(libc::STDERR_FILENO, b"gumpaleri 0.2.1: read failed\n");
+pub fn tell_read_failed() -> Written
+    ensures { λ r. ⌜ Wrote 29 r ⌝ }
+{
+    hand_over(libc::STDERR_FILENO, b"gumpaleri 0.2.1: read failed\n")
 }
 
-pub fn tell_write_failed() {
-    io::write_all(libc::STDERR_FILENO, b"gumpaleri 0.2.1: write failed\n");
+pub fn tell_write_failed() -> Written
+    ensures { λ r. ⌜ Wrote 30 r ⌝ }
+{
+    hand_over(libc::STDERR_FILENO, b"gumpaleri 0.2.1: write failed\n")
 }

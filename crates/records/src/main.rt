@@ -176,6 +176,8 @@ fn main() {
         Line::None => run(line, &column, &mut taken, Input::start()),
         Line::Ended { length: _, input } => run(line, &column, &mut taken, input),
         Line::Full { input } => run(line, &column, &mut taken, input),
-        Line::Failed => output::tell_read_failed(),
+        Line::Failed => {
+            output::tell_read_failed();
+        }
     }
 }
