@@ -11,10 +11,10 @@ use lib.Seq.{slice, slice-empty, slice-cons}
 use Rattle.theory.specs.Lines.{newline}
 use Rattle.lines.specs.declared.input.Input.{Input}
 use Rattle.lines.specs.declared.output.Room.{Room}
-use Rattle.lines.specs.declared.output.Room.the-variants.{For}
+use Rattle.lines.specs.declared.output.Room.the-variants.{For, Failed}
 use Rattle.lines.specs.Input.{Unbroken, Waits}
-use Rattle.lines.specs.Output.{line-room, left-of, Roomy}
-use Rattle.lines.specs.Turn.{Left}
+use Rattle.lines.specs.Output.{line-room, due, left-of, Roomy}
+use Rattle.lines.specs.Turn.{Left, Due, before-a-read, for-room}
 use Rattle.lines.proofs.Taking.{slice-join, slice-one, unbroken-more}
 
 -- No newline stands from `first` up to `at`.
@@ -76,3 +76,12 @@ module _ {taken : List ℕ} {input : Input} {size used left count : ℕ} (fits :
               let l = ltb-false (size - used) line-room t in
               let same : left ≡ used = e ∙ rw (t, cond) in
               record { shown = λ u. absurd (u w); full = λ k. absurd (omega arith); stays = λ m k. same; room = omega arith }
+
+-- A write that failed was due.
+pub write-due : {taken : List ℕ} {input : Input} {size used : ℕ} → used ≤ size → (waits : Bool) {room : Room} → room ≡ Failed
+    → Roomy size used waits room → Waits taken input waits → Due taken input size used
+write-due {taken} {input} {size} {used} l waits is r w = by waits w (subst (Roomy size used waits) is r)
+  where
+    by : (b : Bool) → Waits taken input b → due size used b ≡ true → Due taken input size used
+    by true w d = before-a-read w
+    by false w d = for-room (let m = ltb-true (size - used) line-room d in omega arith)

@@ -1,7 +1,7 @@
 -- What is put into a block of output, and what is handed on to be written.
 use Prim.Native.Nat.{ℕ, _+_, _-_}
 use mathlib.Core.Path.{_≡_}
-use mathlib.Core.Bool.{Bool, cond, _||_}
+use mathlib.Core.Bool.{Bool, true, cond, _||_}
 use mathlib.Core.List.{List, _++_}
 use lib.ListN.{length, take}
 use lib.Dec.{ltb}
@@ -20,15 +20,18 @@ pub record Put (text before : List ℕ) (used : ℕ) (after : List ℕ) (used′
 abbrev pub line-room : ℕ
 line-room = 64
 
--- All n bytes were handed to C's write, or it failed.
+-- So many bytes are said to be written, or that it failed.
 abbrev pub Wrote : ℕ → Written → Type 0
 Wrote n (written.All count) = count ≡ n
 Wrote n written.Failed = Unit {0}
 
--- What is used is written, whole, where a line might not fit after it or the caller would wait; else it is used still, whole.
+-- A write is due where a line might not fit after what is used, or the caller would wait. Then none of it is used still, and else all of it.
+abbrev pub due : (size used : ℕ) → Bool → Bool
+due size used waits = waits || ltb (size - used) line-room
+
 abbrev pub left-of : (size used : ℕ) → Bool → ℕ
-left-of size used waits = cond (waits || ltb (size - used) line-room) 0 used
+left-of size used waits = cond (due size used waits) 0 used
 
 abbrev pub Roomy : (size used : ℕ) → Bool → Room → Type 0
 Roomy size used waits (room.For used′ count) = (used′ ≡ left-of size used waits) × (count + used′ ≡ used)
-Roomy size used waits room.Failed = Unit {0}
+Roomy size used waits room.Failed = due size used waits ≡ true

@@ -16,7 +16,12 @@ pub record Left (taken : List ℕ) (input : Input) (size used left : ℕ) : Type
   pub stays : List·Memᴰ newline (untaken taken input) → used + line-room ≤ size → left ≡ used
   pub room : left + line-room ≤ size
 
--- What `ask` owes.
+-- A write is due: the next line needs a read, or it might not fit.
+pub data Due (taken : List ℕ) (input : Input) (size used : ℕ) : Type 0 where
+  before-a-read : Unbroken (untaken taken input) → Due taken input size used
+  for-room : size < used + line-room → Due taken input size used
+
+-- What `ask` owes. A write fails only where one is due, and then no line is taken.
 abbrev pub Asks : List ℕ → Input → (size used : ℕ) → Asked → List ℕ → List ℕ → Type 0
 Asks taken input size used (Line line left) taken′ column = Left taken input size used left × TookWhole taken input line taken′ column
-Asks taken input size used WriteFailed taken′ column = Unit {0}
+Asks taken input size used WriteFailed taken′ column = Due taken input size used × (taken′ ≡ taken)

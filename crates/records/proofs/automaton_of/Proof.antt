@@ -44,7 +44,8 @@ built c =
     let home = told .before .before in
     let half = home .before .before .before in
     let a = made (half .before .before .before) in
-    record { begins = sited (built-from (made-of (text a .bytes .ensures) (told .states .given .1) (a .automaton .ensures)) refl) }
+    let m = made-of (text a .bytes .ensures) (told .states .given .1) (a .automaton .ensures) in
+    record { begins = (_, m, refl, refl, refl, sited (built-from m refl)) }
 
 pub automaton-of-spec : {M : Type 1} → statement M
 automaton-of-spec =

@@ -52,7 +52,7 @@ judge-asked c κs =
     let a = made (home .before .before .before) in
     let lent = a .before .before in
     let s = start (lent .before .before .before) in
-    (sited-as (t .bytes .ensures) (starts-as (told .states .given .1) (a .automaton-of .ensures) .begins), s .pre .1)
+    (sited-as (t .bytes .ensures) (starts-as (told .states .given .1) (a .automaton-of .ensures) .begins .5), s .pre .1)
 
 pub run-spec : {M : Type 1} → statement M
 run-spec =

@@ -21,10 +21,13 @@ cleared c =
     let all = subst (Wrote _) (c .before .count .given .1) (w .write .ensures) ∙ length-take-le _ _ (s .pre .0) in
     (rw (w .before .before .if1 .taken, cond), omega arith)
 
+failed : tie.Need-returns-2
+failed c = let w = c .before .before in w .before .before .if1 .taken
+
 left : tie.Need-returns-3
 left c = (rw (c .if1 .left, cond), omega arith)
 
 pub with-room-spec : {M : Type 1} → statement M
 with-room-spec =
     tie.close
-    (tie.spec (λ c. search needs) handed (λ c κs. search needs) (λ c. search needs) (λ c. search needs) cleared (λ c. search needs) left)
+    (tie.spec (λ c. search needs) handed (λ c κs. search needs) (λ c. search needs) (λ c. search needs) cleared failed left)

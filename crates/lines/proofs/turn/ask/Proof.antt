@@ -1,6 +1,7 @@
 -- `ask` writes out what is answered before it waits, and takes the next line.
 use borrow.Author.Needs.{needs}
-use Rattle.lines.proofs.Waiting.{what-is-left}
+use mathlib.Core.Path.{refl}
+use Rattle.lines.proofs.Waiting.{what-is-left, write-due}
 use Rattle.lines.proofs.turn.ask.Statement.{statement}
 use Rattle.lines.proofs.turn.ask.Tie as tie
 
@@ -26,6 +27,12 @@ took c = c .before
 
 -- ---- The needs
 
+failed : tie.Need-returns
+failed c =
+    let r = c .before .before in
+    let w = waited r in
+    (write-due (start w .pre .1 .0) (w .waits .result) (c .enum-told .given .1) (r .with-room .ensures) (w .waits .ensures), refl)
+
 asked : tie.Need-returns-2
 asked c =
     let kept = told (took (c .before .before .before)) .before in
@@ -37,4 +44,4 @@ pub ask-spec : {M : Type 1} → statement M
 ask-spec =
     tie.close
     (tie.spec (λ c κs. search needs) (λ c κs. search needs) (λ c. search needs) (λ c. search needs) (λ c κs. search needs)
-    (λ c. search needs) (λ c. search needs) (λ c. search needs) (λ c. search needs) asked)
+    (λ c. search needs) failed (λ c. search needs) (λ c. search needs) asked)

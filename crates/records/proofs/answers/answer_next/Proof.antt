@@ -5,7 +5,7 @@ use lib.ListN.{length}
 use Rattle.lines.specs.Input.{TookWhole}
 use Rattle.lines.specs.Turn.{Left}
 use Rattle.lines.proofs.WholeLine.{whole}
-use Rattle.records.proofs.Turning.{asks-as, answers, no-line, failed as read-failed}
+use Rattle.records.proofs.Turning.{asks-as, unasked, answers, no-line, failed as read-failed}
 use Rattle.records.proofs.answers.answer_next.Statement.{statement}
 use Rattle.records.proofs.answers.answer_next.Tie as tie
 
@@ -25,6 +25,9 @@ taken c = c .before .before .before
 
 abbrev start : tie.After-ask → tie.Start
 start c = taken (arcs (work (lent c))) .before .before
+
+abbrev failing : tie.After-enum-told → tie.After-ask
+failing c = let k = c .before .before .before in k .before .before .before
 
 abbrev home : tie.After-line → tie.After-column
 home c = c .before .before .before
@@ -65,6 +68,12 @@ answer-asked c κs =
     let k = asks l in
     (s .pre .0, (s .pre .1 .0, (whole _ (k .1) (asked l .ask .kept .1 .1 .0 ∙ s .pre .1 .1 .0 .1), k .0 .room)))
 
+unwritten : tie.Need-returns
+unwritten c =
+    let a = failing c in
+    let h = unasked (a .ask .last .1 .1 .0) (c .enum-told .given .1) (a .ask .ensures) in
+    record { turns = (h .0, h .1, refl) }
+
 none : tie.Need-returns-2
 none c =
     let a = answered (c .before .before) in
@@ -96,7 +105,7 @@ answer-next-spec =
     tie.close
     (tie.spec (λ c κs. search needs) (λ c. search needs) (λ c. search needs) answer-asked (λ c. search needs) (λ c. search needs) (λ c. search needs)
     (λ c. search needs)
-    (λ c. search needs) (λ c. search needs) (λ c. search needs) (λ c. search needs)
+    (λ c. search needs) (λ c. search needs) (λ c. search needs) unwritten
     (λ c. search needs) (λ c. search needs) (λ c. search needs) (λ c. search needs) (λ c. search needs) none
     (λ c. search needs) (λ c. search needs) (λ c. search needs) (λ c. search needs) (λ c. search needs) failed
     (λ c. search needs) (λ c. search needs) (λ c. search needs) (λ c. search needs) (λ c. search needs) ended
