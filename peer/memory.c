@@ -1,23 +1,52 @@
 #include "memory.h"
 
+#include <stdalign.h>
 #include <stdio.h>
 #include <stdlib.h>
 
-static void *checked(void *memory)
+/* Stands before each piece of memory, in a ring. */
+struct piece {
+    alignas(max_align_t) struct piece *before;
+    struct piece *after;
+};
+
+static struct piece all = { &all, &all };
+
+static struct piece *joined(struct piece *piece)
 {
-    if (!memory) {
+    if (!piece) {
         fputs("out of memory\n", stderr);
         exit(EXIT_FAILURE);
     }
-    return memory;
+    piece->before = &all;
+    piece->after = all.after;
+    piece->before->after = piece;
+    piece->after->before = piece;
+    return piece;
 }
 
 void *zeroed(size_t bytes)
 {
-    return checked(calloc(1, bytes));
+    return joined(calloc(1, sizeof(struct piece) + bytes)) + 1;
 }
 
 void *grown(void *memory, size_t bytes)
 {
-    return checked(realloc(memory, bytes));
+    struct piece *piece = NULL;
+    if (memory) {
+        piece = (struct piece *)memory - 1;
+        piece->before->after = piece->after;
+        piece->after->before = piece->before;
+    }
+    return joined(realloc(piece, sizeof *piece + bytes)) + 1;
+}
+
+void give_all_back(void)
+{
+    while (all.after != &all) {
+        struct piece *piece = all.after;
+        all.after = piece->after;
+        free(piece);
+    }
+    all.before = &all;
 }

@@ -1,4 +1,4 @@
-/* Memory that is never given back: each program reads one expression and ends. */
+/* Memory that is given back all at once: after an expression line, or by a program that reads one line at its end. */
 #ifndef MEMORY_H
 #define MEMORY_H
 
@@ -7,5 +7,8 @@
 /* As calloc and realloc, but the program ends when there is no memory. */
 void *zeroed(size_t bytes);
 void *grown(void *memory, size_t bytes);
+
+/* Gives back all that zeroed and grown gave. */
+void give_all_back(void);
 
 #endif

@@ -11,7 +11,8 @@ enum refusal_number {
     NO_SUCH_TEXT = 13,
     TOO_MANY_OPEN = 14,
     TOO_MANY_ENTRIES = 15,
-    RECORD_TOO_LONG = 16
+    RECORD_TOO_LONG = 16,
+    TOO_MANY_LINES = 22
 };
 
 /* "Success is 0 with place 0." */

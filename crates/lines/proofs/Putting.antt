@@ -1,16 +1,17 @@
 -- Text after text in a block: a byte, a word, a number, a refusal's line.
-use Prim.Native.Nat.{ℕ, suc, _+_, _^_, _≤_, _<_}
+use Prim.Native.Nat.{ℕ, suc, _+_, _*_, _^_, _≤_, _<_}
 use native.Mathlib.Nat.{add-zero, add-assoc}
 use native.Mathlib.Omega.{arith}
 use mathlib.Core.Path.{_≡_, refl, sym, ap, _∙_, subst}
-use mathlib.Core.List.{List, [], _∷_, _++_, append-nil, append-assoc}
+use mathlib.Core.List.{List, [], _∷_, _++_, flatMap, append-nil, append-assoc}
 use lib.ListN.{length, getD, take, set, length-take, length-set, length-append}
 use lib.Seq.{take-all, take-suc, take-suc-set}
 use Rattle.io.specs.Digits.{Fewest}
 use Rattle.io.specs.Digits.{digits as Digits·digits}
 use Rattle.theory.specs.Refusal.{Refusal}
-use Rattle.theory.specs.Lines.{decimal, number-and, space, newline, refusal-line}
-use Rattle.lines.specs.Output.{Put, line-room}
+use Rattle.theory.specs.Lines.{decimal, number-and, space, newline, row, refusal-line}
+use Rattle.theory.proofs.Members.{flatMap-append}
+use Rattle.lines.specs.Output.{Put, number-room, line-room}
 use Rattle.lines.proofs.Decimal.{decimal-digits, decimal-short}
 
 pub put-nothing : {block : List ℕ} {used : ℕ} → Put [] block used block used
@@ -95,3 +96,44 @@ refusal-short r l m =
     let a = number-short (r .number) space l in
     let b = number-short (r .place) newline m in
     simp length-append (omega (arith, simp length-append at a, simp length-append at b))
+
+-- ---- A row of numbers
+
+unfoldable pub spaced : List ℕ → ℕ → List ℕ
+unfolding flatMap decimal
+spaced numbers i = flatMap (λ n. number-and n space) (take i numbers)
+
+spaced-more : (numbers : List ℕ) (i : ℕ) → i < length numbers → spaced numbers (i + 1) ≡ spaced numbers i ++ number-and (getD numbers i 0) space
+unfolding spaced flatMap
+spaced-more numbers i l =
+    ap (λ (xs : List ℕ). flatMap (λ n. number-and n space) xs) (ap (λ (n : ℕ). take n numbers) (one-more i) ∙ take-suc numbers i 0 l)
+    ∙ flatMap-append (λ n. number-and n space) (take i numbers) (getD numbers i 0 ∷ [])
+    ∙ ap (λ (x : List ℕ). flatMap (λ n. number-and n space) (take i numbers) ++ x) (append-nil (number-and (getD numbers i 0) space))
+
+-- The first i numbers stand, each in its room.
+pub record Spaced (numbers before : List ℕ) (used : ℕ) (after : List ℕ) (at i : ℕ) : Type 0 where
+  pub put : Put (spaced numbers i) before used after at
+  pub room : at ≤ used + i * number-room
+  pub within : i ≤ length numbers
+
+pub spaced-none : (numbers before : List ℕ) (used : ℕ) → Spaced numbers before used before used 0
+unfolding spaced flatMap
+spaced-none numbers before used = record { put = put-nothing; room = omega arith; within = omega arith }
+
+module _ {numbers before between : List ℕ} {used at i : ℕ} (s : Spaced numbers before used between at i) {after : List ℕ} {at′ : ℕ} where
+  pub spaced-next : i < length numbers → getD numbers i 0 < 2 ^ 64 → Put (number-and (getD numbers i 0) space) between at after at′
+      → Spaced numbers before used after at′ (i + 1)
+  spaced-next l m p = record {
+    put = rw (spaced-more numbers i l) (put-then (s .put) p);
+    room = let a = number-short (getD numbers i 0) space m in let c = p .count in let r = s .room in omega arith;
+    within = omega arith;
+  }
+
+  pub row-put : {last : ℕ} → length numbers ≤ i → last < 2 ^ 64 → Put (number-and last newline) between at after at′
+      → Put (row numbers last) before used after at′ × (at′ ≤ used + (length numbers + 1) * number-room)
+  unfolding row spaced
+  row-put {last} l m p = (
+    subst (λ (xs : List ℕ). Put (flatMap (λ n. number-and n space) xs ++ number-and last newline) before used after at′) (take-all i numbers l)
+        (put-then (s .put) p),
+    let a = number-short last newline m in let c = p .count in let r = s .room in let w = s .within in omega arith,
+  )

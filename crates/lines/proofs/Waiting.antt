@@ -4,17 +4,21 @@ use native.Mathlib.Omega.{arith}
 use mathlib.Core.Path.{_≡_, refl, sym, ap, _∙_, subst}
 use borrow.Author.Tests.{ltb-true, ltb-false}
 use mathlib.Core.Bool.{Bool, true, false, cond}
+use mathlib.Core.Logic.{inl, inr}
 use mathlib.Core.List.{List, _++_, List·Memᴰ, List·Memᴰ·head, List·Memᴰ·not-nil, Memᴰ·append-right}
 use lib.ListN.{length, getD}
 use lib.Dec.{ltb}
 use lib.Seq.{slice, slice-empty, slice-cons}
 use Rattle.theory.specs.Lines.{newline}
 use Rattle.lines.specs.declared.input.Input.{Input}
+use Rattle.lines.specs.declared.input.Line.{Line}
+use Rattle.lines.specs.declared.turn.Asked.{Asked}
+use Rattle.lines.specs.declared.turn.Asked.the-variants as asked
 use Rattle.lines.specs.declared.output.Room.{Room}
 use Rattle.lines.specs.declared.output.Room.the-variants.{For, Failed}
-use Rattle.lines.specs.Input.{Unbroken, Waits}
+use Rattle.lines.specs.Input.{Unbroken, Waits, TookWhole}
 use Rattle.lines.specs.Output.{line-room, due, left-of, Roomy}
-use Rattle.lines.specs.Turn.{Left, Due, before-a-read, for-room}
+use Rattle.lines.specs.Turn.{Left, Due, before-a-read, for-room, Asks}
 use Rattle.lines.proofs.Taking.{slice-join, slice-one, unbroken-more}
 
 -- No newline stands from `first` up to `at`.
@@ -64,18 +68,18 @@ module _ {taken : List ℕ} {input : Input} {size used left count : ℕ} (fits :
   what-is-left waits is r w = by waits w (subst (Roomy size used waits) is r .0)
     where
       by : (b : Bool) → Waits taken input b → left ≡ left-of size used b → Left taken input size used left
-      by true w e = record { shown = λ u. e; full = λ l. e; stays = λ m. absurd (w m); room = omega arith }
+      by true w e = record { shown = λ u. e; full = λ l. e; stays = λ m. absurd (w m); whole = inr e; room = omega arith }
       by false w e = tight (ltb (size - used) line-room) refl
         where
           tight : (b : Bool) → ltb (size - used) line-room ≡ b → Left taken input size used left
           tight true t =
               let l = ltb-true (size - used) line-room t in
               let none : left ≡ 0 = e ∙ rw (t, cond) in
-              record { shown = λ u. none; full = λ k. none; stays = λ m k. absurd (omega arith); room = omega arith }
+              record { shown = λ u. none; full = λ k. none; stays = λ m k. absurd (omega arith); whole = inr none; room = omega arith }
           tight false t =
               let l = ltb-false (size - used) line-room t in
               let same : left ≡ used = e ∙ rw (t, cond) in
-              record { shown = λ u. absurd (u w); full = λ k. absurd (omega arith); stays = λ m k. same; room = omega arith }
+              record { shown = λ u. absurd (u w); full = λ k. absurd (omega arith); stays = λ m k. same; whole = inl same; room = omega arith }
 
 -- A write that failed was due.
 pub write-due : {taken : List ℕ} {input : Input} {size used : ℕ} → used ≤ size → (waits : Bool) {room : Room} → room ≡ Failed
@@ -85,3 +89,12 @@ write-due {taken} {input} {size} {used} l waits is r w = by waits w (subst (Room
     by : (b : Bool) → Waits taken input b → due size used b ≡ true → Due taken input size used
     by true w d = before-a-read w
     by false w d = for-room (let m = ltb-true (size - used) line-room d in omega arith)
+
+-- What the enum says.
+pub asks-as : {taken : List ℕ} {input : Input} {size used : ℕ} {r : Asked} {line : Line} {left : ℕ} {taken′ column : List ℕ} → r ≡ asked.Line line left
+    → Asks taken input size used r taken′ column → Left taken input size used left × TookWhole taken input line taken′ column
+asks-as {taken} {input} {size} {used} {taken′ = taken′} {column} e h = subst (λ (r : Asked). Asks taken input size used r taken′ column) e h
+
+pub unasked : {taken : List ℕ} {input : Input} {size used : ℕ} {r : Asked} {taken′ : List ℕ} (column : List ℕ) → r ≡ asked.WriteFailed
+    → Asks taken input size used r taken′ column → Due taken input size used × (taken′ ≡ taken)
+unasked {taken} {input} {size} {used} {taken′ = taken′} column e h = subst (λ (r : Asked). Asks taken input size used r taken′ column) e h

@@ -16,9 +16,13 @@ pub record Put (text before : List ℕ) (used : ℕ) (after : List ℕ) (used′
   pub stands : take used′ after ≡ take used before ++ text
   pub same-length : length after ≡ length before
 
--- No line of the records program and no refusal is longer. The code has it as `LINE`.
+-- A number of 64 bits and the byte after it.
+abbrev pub number-room : ℕ
+number-room = 21
+
+-- No line of the records program and of the room report, and no refusal, is longer. The code has it as `LINE`.
 abbrev pub line-room : ℕ
-line-room = 64
+line-room = 128
 
 -- So many bytes are said to be written, or that it failed.
 abbrev pub Wrote : ℕ → Written → Type 0

@@ -1,14 +1,14 @@
 // Text put together in a lent block, and written out.
 
 ghost use mathlib.Core.Path.{_≡_};
-ghost use Prim.Native.Nat.{_+_, _≤_};
+ghost use Prim.Native.Nat.{_+_, _*_, _≤_};
 ghost use lib.ListN.{length};
 ghost use Rattle.theory.specs.Refusal.{refusal};
-ghost use Rattle.theory.specs.Lines.{number-and, refusal-line};
-ghost use Rattle.lines.specs.Output.{Put, line-room, Wrote, Roomy};
+ghost use Rattle.theory.specs.Lines.{number-and, row, refusal-line};
+ghost use Rattle.lines.specs.Output.{Put, number-room, line-room, Wrote, Roomy};
 
-// No line of the records program and no refusal is longer.
-pub const LINE: usize = 64;
+// No line of the records program and of the room report, and no refusal, is longer.
+pub const LINE: usize = 128;
 
 // Bytes after the used ones.
 pub fn word(block: &mut [u8], used: usize, bytes: &[u8]) -> usize
@@ -34,6 +34,21 @@ pub fn number(block: &mut [u8], used: usize, n: usize, after: u8) -> usize
     let at = word(block, used, &digits[..k]);
     block[at] = after;
     at + 1
+}
+
+// Numbers on a line, single-spaced, after the used bytes.
+pub fn row(block: &mut [u8], used: usize, numbers: &[u64], last: u64) -> usize
+    requires { ⌜ used + (length (now numbers) + 1) * number-room ≤ length (now block) ⌝ }
+    ensures { λ r. ⌜ Put (row (now (numbers .entry)) last) (now (block .entry)) used (now (block .exit)) r ⌝ }
+    ensures { λ r. ⌜ r ≤ used + (length (now (numbers .entry)) + 1) * number-room ⌝ }
+{
+    let mut at = used;
+    let mut i = 0;
+    while i < numbers.len() {
+        at = number(block, at, numbers[i] as usize, b' ');
+        i += 1;
+    }
+    number(block, at, last as usize, b'\n')
 }
 
 // 01: "Both print `refused R P` (number, place) on a refusal".

@@ -14,8 +14,9 @@ use Rattle.theory.proofs.Filled.{filled-well-formed}
 use Rattle.lines.specs.declared.output.Written.{Written}
 use Rattle.lines.specs.Output.{Put, Wrote}
 use Rattle.lines.proofs.Putting.{put-then}
-use Rattle.site.specs.Rooms
-use Rattle.site.specs.Site.{Shown, Answer, withheld, needs, site-refusal, holding, Made}
+use Rattle.theory.specs.Rooms
+use Rattle.theory.specs.Report.{Report, withheld, needs}
+use Rattle.site.specs.Site.{Shown, site-refusal, holding, Made}
 use Rattle.site.proofs.Fitting.{Fits, fitting}
 use Rattle.site.proofs.Making.{unless-none, unless-some}
 use Rattle.site.proofs.Judging.{BuiltFrom}
@@ -40,17 +41,17 @@ lists-refusal {r = r} h p = record {
 
 -- ---- A listing
 
-module _ {text : Text} {q : Reading} {answer : Answer} {s′ : Shown} (b : BuiltFrom text q own-columns answer s′) where
+module _ {text : Text} {q : Reading} {answer : Report} {s′ : Shown} (b : BuiltFrom text q own-columns answer s′) where
   few : Fits (b .read-as .expression) own-columns
   few = fitting (b .read-as .expression) own-columns (b .fits)
 
   pub few-states : answer .states ≤ Rooms.states
   unfolding needs
-  few-states = let n = ap (λ (a : Answer). a .states) (b .counts) in let l = few .few-states in omega arith
+  few-states = let n = ap (λ (a : Report). a .states) (b .counts) in let l = few .few-states in omega arith
 
   pub few-arcs : answer .arcs ≤ Rooms.arcs
   unfolding needs
-  few-arcs = let n = ap (λ (a : Answer). a .arcs) (b .counts) in let l = few .few-arcs in omega arith
+  few-arcs = let n = ap (λ (a : Report). a .arcs) (b .counts) in let l = few .few-arcs in omega arith
 
   -- The arcs lead from state to state.
   pub narrow : Narrow (s′ .arcs) (answer .arcs)
@@ -59,7 +60,7 @@ module _ {text : Text} {q : Reading} {answer : Answer} {s′ : Shown} (b : Built
       let e = b .read-as .expression in
       let small : length (states e) ≤ most-states = let l = few .few-states in omega arith in
       let well = filled-well-formed e Rooms.states (own-columns .arcs) small (few .most) in
-      let n = ap (λ (a : Answer). a .arcs) (b .counts) in
+      let n = ap (λ (a : Report). a .arcs) (b .counts) in
       let c = ap (λ (s : Shown). s .arcs) (b .holds) in
       let room = few .few-states in
       record {
@@ -78,7 +79,7 @@ module _ {text : Text} {q : Reading} {answer : Answer} {s′ : Shown} (b : Built
   printed-is =
       sym (unless-none (site-refusal (b .read-as .expression) own-columns) _ _ (b .fits)) ∙ sym (ap printed (b .read-as .is))
 
-pub lists-automaton : {text : Text} {answer : Answer} {s′ : Shown} (h : Made text own-columns answer s′) → BuiltFrom text (h .reading) own-columns answer s′
+pub lists-automaton : {text : Text} {answer : Report} {s′ : Shown} (h : Made text own-columns answer s′) → BuiltFrom text (h .reading) own-columns answer s′
     → {before between after : List ℕ} {used used′ : ℕ} → Put (arc-lines (s′ .arcs) (answer .arcs)) before 0 between used
     → Put (state-lines (s′ .accepting) (answer .states)) between used after used′ → Lists text before after used′
 lists-automaton h b {before} {after = after} {used′ = used′} p q = record {

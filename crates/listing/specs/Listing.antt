@@ -14,7 +14,7 @@ use Rattle.theory.specs.Read.{Due}
 use Rattle.theory.specs.Lines.{arc-line, state-line, listing, refusal-line}
 use Rattle.lines.specs.declared.output.Written.{Written}
 use Rattle.lines.specs.Output.{Put, Wrote}
-use Rattle.site.specs.Rooms
+use Rattle.theory.specs.Rooms
 use Rattle.site.specs.Site.{Shown, shown, entry-columns, site-refusal, unless-refused}
 
 -- ---- The room of a listing

@@ -10,7 +10,7 @@ ghost use Prim.Native.Nat.{_+_, _*_, _≤_, _<_};
 ghost use lib.ListN.{length};
 ghost use Rattle.theory.specs.Arcs.{arc-columns};
 ghost use Rattle.theory.specs.Lines.{arc-line};
-ghost use Rattle.site.specs.Rooms;
+ghost use Rattle.theory.specs.Rooms;
 ghost use Rattle.theory.specs.Limit.{longest-text};
 ghost use Rattle.lines.specs.Input.{line-bytes, Whole};
 ghost use Rattle.lines.specs.Output.{Put, Wrote};

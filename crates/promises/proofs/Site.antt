@@ -20,8 +20,9 @@ use Rattle.theory.proofs.Arcs.{even-arcs-iff}
 use Rattle.theory.proofs.Due.{due-once}
 use Rattle.theory.proofs.Expressed.{expressed}
 use Rattle.theory.proofs.BuilderRefusal.{over-iff}
-use Rattle.site.specs.Rooms as Rooms
-use Rattle.site.specs.Site.{Shown, Answer, withheld, site-refusal, needs, answered, left-in, entry-columns, beside, blank, Made}
+use Rattle.theory.specs.Rooms as Rooms
+use Rattle.theory.specs.Report.{Report, withheld, needs}
+use Rattle.site.specs.Site.{Shown, site-refusal, answered, left-in, entry-columns, beside, blank, Made}
 use Rattle.site.specs.Sited.{told, JudgesText}
 use Rattle.site.specs.Values.{values, spoken}
 use Rattle.site.specs.declared.Site.{Site}
@@ -103,8 +104,8 @@ refusal-of e s = go (ℕ-discrete ((site-refusal e s) .number) 0)
         let b = even-test s in
         let o = over-room e (beside s) in
         let by : site-refusal e s ≡ ordered b o = by-tests e s refl refl in
-        ap (λ (a : Answer). a .refusal) (answered-built e s z) ∙ sym (by ∙ clear b o (ap (λ (r : Refusal). r .number) (sym by) ∙ z))
-    go (no n) = ap (λ (a : Answer). a .refusal) (answered-refused e s n)
+        ap (λ (a : Report). a .refusal) (answered-built e s z) ∙ sym (by ∙ clear b o (ap (λ (r : Refusal). r .number) (sym by) ∙ z))
+    go (no n) = ap (λ (a : Report). a .refusal) (answered-refused e s n)
 
 -- ---- The demand
 
@@ -158,20 +159,20 @@ nothing-left s (read e) n =
     (answered-refused e s m ∙ ap withheld (sym (refusal-of e s)), left-refused e s m)
 nothing-left s (refused r) n = (refl, refl)
 
-pub site-meets : {text : Text} {s : Shown} {answer : Answer} {s′ : Shown} → Made text s answer s′ → SiteMeets text s answer s′
+pub site-meets : {text : Text} {s : Shown} {answer : Report} {s′ : Shown} → Made text s answer s′ → SiteMeets text s answer s′
 site-meets {text} {s} {answer} h = record {
-  exact = exactly (SiteCause text s) (ap (λ (a : Answer). a .refusal) (h .answers)) (caused (h .reading) (h .due)) (λ r. due (h .reading) (h .due));
-  numbered = let l = site-number {s = s} (caused (h .reading) (h .due)) .0 in omega (arith, ap (λ (a : Answer). a .refusal .number) (h .answers));
-  counts = λ n. h .answers ∙ nothing-left s (h .reading) (again n) .0 ∙ ap (λ (a : Answer). withheld (a .refusal)) (sym (h .answers));
+  exact = exactly (SiteCause text s) (ap (λ (a : Report). a .refusal) (h .answers)) (caused (h .reading) (h .due)) (λ r. due (h .reading) (h .due));
+  numbered = let l = site-number {s = s} (caused (h .reading) (h .due)) .0 in omega (arith, ap (λ (a : Report). a .refusal .number) (h .answers));
+  counts = λ n. h .answers ∙ nothing-left s (h .reading) (again n) .0 ∙ ap (λ (a : Report). withheld (a .refusal)) (sym (h .answers));
   columns = λ n. h .leaves ∙ nothing-left s (h .reading) (again n) .1;
 }
   where
     again : ¬ (answer .refusal .number ≡ 0) → ¬ ((answered (h .reading) s) .refusal .number ≡ 0)
-    again n z = n (ap (λ (a : Answer). a .refusal .number) (h .answers) ∙ z)
+    again n z = n (ap (λ (a : Report). a .refusal .number) (h .answers) ∙ z)
 
 -- ---- Two results
 
-made-once : {text : Text} {s : Shown} {a b : Answer} {s′ s″ : Shown} → Made text s a s′ → Made text s b s″ → (a ≡ b) × (s′ ≡ s″)
+made-once : {text : Text} {s : Shown} {a b : Report} {s′ s″ : Shown} → Made text s a s′ → Made text s b s″ → (a ≡ b) × (s′ ≡ s″)
 made-once {s = s} h k =
     let same = due-once (h .due) (k .due) in
     (h .answers ∙ ap (λ q. answered q s) same ∙ sym (k .answers), h .leaves ∙ ap (λ q. left-in q s) same ∙ sym (k .leaves))
@@ -202,9 +203,9 @@ sites-apart : {text : Text} {s : Shown} (a b : Site) {s′ s″ : Shown} → Mad
 sites-apart (site.Refused n p) (site.Refused m q) h k =
     let e = made-once h k .0 in λ i. site.Refused (e i .refusal .number) (e i .refusal .place)
 sites-apart (site.Refused n p) (site.Built x l c y a) h k =
-    absurd (refused-number h (ap (λ (z : Answer). z .refusal .number) (made-once h k .0)))
+    absurd (refused-number h (ap (λ (z : Report). z .refusal .number) (made-once h k .0)))
 sites-apart (site.Built x l c y a) (site.Refused m q) h k =
-    absurd (refused-number k (sym (ap (λ (z : Answer). z .refusal .number) (made-once h k .0))))
+    absurd (refused-number k (sym (ap (λ (z : Report). z .refusal .number) (made-once h k .0))))
 sites-apart (site.Built x l c y a) (site.Built x′ l′ c′ y′ a′) h k =
     let e = made-once h k .0 in λ i. site.Built (e i .entries) (e i .letters) (e i .states) (e i .expressions) (e i .arcs)
 

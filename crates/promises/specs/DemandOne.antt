@@ -14,7 +14,8 @@ use Rattle.promises.specs.Table.{TableMeets}
 use Rattle.promises.specs.Reader.{ReaderMeets}
 use Rattle.promises.specs.Builder.{BuilderMeets}
 use Rattle.promises.specs.Matcher.{MatcherMeets}
-use Rattle.site.specs.Site.{Shown, Answer, Made}
+use Rattle.theory.specs.Report.{Report}
+use Rattle.site.specs.Site.{Shown, Made}
 use Rattle.site.specs.Sited.{JudgesText}
 use Rattle.promises.specs.Site.{SiteMeets, TextMeets}
 
@@ -24,6 +25,6 @@ pub record DemandOne : Type 0 where
   pub reads : {text : Text} {t : Table} {answer : Entered} {t′ : Table} → Read text t answer t′ → ReaderMeets text t answer t′
   pub builds : {g : Table} {c : Lent} {answer : Counts} {c′ : Lent} → Built g c answer c′ → BuilderMeets g c answer c′
   pub judges : {h : Handed} {w : Word} {k : Work} {answer : Judgement} {k′ : Work} → Judged h w k answer k′ → MatcherMeets h k answer k′
-  pub sites : {text : Text} {s : Shown} {answer : Answer} {s′ : Shown} → Made text s answer s′ → SiteMeets text s answer s′
+  pub sites : {text : Text} {s : Shown} {answer : Report} {s′ : Shown} → Made text s answer s′ → SiteMeets text s answer s′
   pub judges-text : {text : Text} {w : Word} {s : Shown} {k : Work} {answer : Judgement} {s′ : Shown} {k′ : Work}
       → JudgesText text w s k answer s′ k′ → TextMeets text s k answer s′ k′

@@ -2,7 +2,7 @@
 use mathlib.Core.Path.{_≡_}
 use Rattle.theory.specs.Refusal as Refusal
 use Rattle.theory.specs.Limit as Limit
-use Rattle.site.specs.Rooms as Rooms
+use Rattle.theory.specs.Rooms as Rooms
 
 -- The column "no." of 01's table, from the first line on; "Success is 0 with place 0."
 pub record RefusalsAre : Type 0 where

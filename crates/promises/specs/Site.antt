@@ -12,7 +12,8 @@ use Rattle.theory.specs.Grammar.{Text}
 use Rattle.theory.specs.Build.{OverRoom}
 use Rattle.theory.specs.Record.{Work, cleared}
 use Rattle.theory.specs.Judge.{Judgement}
-use Rattle.site.specs.Site.{Shown, Answer, withheld, entry-columns, beside, blank, Made}
+use Rattle.theory.specs.Report.{Report, withheld}
+use Rattle.site.specs.Site.{Shown, entry-columns, beside, blank, Made}
 use Rattle.site.specs.Values.{values, spoken}
 use Rattle.site.specs.Sited.{JudgesText}
 use Rattle.site.specs.declared.Site.{Site}
@@ -34,7 +35,7 @@ pub data SiteCause (text : Text) (s : Shown) : Refusal → Type 0 where
   none : (e : Expression) → Written text entry-columns e → EvenShown s → ¬ OverRoom e (beside s) → SiteCause text s success
 
 -- What demand 1 asks of a call: a refusal is given exactly where there is cause for it, and then all counts and columns are zero.
-pub record SiteMeets (text : Text) (s : Shown) (answer : Answer) (s′ : Shown) : Type 0 where
+pub record SiteMeets (text : Text) (s : Shown) (answer : Report) (s′ : Shown) : Type 0 where
   pub exact : (r : Refusal) → (answer .refusal ≡ r) ↔ SiteCause text s r
   pub numbered : answer .refusal .number < 16
   pub counts : ¬ (answer .refusal .number ≡ 0) → answer ≡ withheld (answer .refusal)
@@ -60,7 +61,7 @@ pub record TextMeets (text : Text) (s : Shown) (k : Work) (answer : Judgement) (
   pub work : k′ ≡ cleared k
 
 pub record SiteOnce : Type 0 where
-  pub automaton : {text : Text} {s : Shown} {a b : Answer} {s′ s″ : Shown} → Made text s a s′ → Made text s b s″ → (a ≡ b) × (s′ ≡ s″)
+  pub automaton : {text : Text} {s : Shown} {a b : Report} {s′ s″ : Shown} → Made text s a s′ → Made text s b s″ → (a ≡ b) × (s′ ≡ s″)
   pub judge : {text : Text} {w : Word} {s : Shown} {k : Work} {a b : Judgement} {s′ s″ : Shown} {k′ k″ : Work}
       → JudgesText text w s k a s′ k′ → JudgesText text w s k b s″ k″ → (a ≡ b) × (s′ ≡ s″) × (k′ ≡ k″)
   -- The same of the enums that the calls return.

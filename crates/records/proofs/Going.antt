@@ -8,7 +8,7 @@ use Rattle.theory.specs.Grammar.{Text}
 use Rattle.theory.specs.Record.{Handed, work, words, LongEnough}
 use Rattle.lines.specs.declared.input.Input.{Input}
 use Rattle.lines.specs.Input.{Inside}
-use Rattle.site.specs.Rooms
+use Rattle.theory.specs.Rooms
 use Rattle.site.specs.Sited.{Sited}
 use Rattle.site.proofs.Judging.{few-states}
 use Rattle.records.specs.Answer.{longest-record}

@@ -10,25 +10,15 @@ use Rattle.theory.specs.Record.{Handed}
 use Rattle.lines.specs.declared.input.Input.{Input}
 use Rattle.lines.specs.declared.input.Line.{Line}
 use Rattle.lines.specs.declared.input.Line.the-variants.{None, Ended, Full, Failed}
-use Rattle.lines.specs.declared.turn.Asked.{Asked}
-use Rattle.lines.specs.declared.turn.Asked.the-variants as asked
 use Rattle.lines.specs.Input.{Inside, untaken, Unbroken, TookWhole}
-use Rattle.lines.specs.Turn.{Left, Due, Asks}
+use Rattle.lines.specs.Turn.{Left}
 use Rattle.lines.proofs.WholeLine.{took, no-line-waits, failed-waits}
 use Rattle.site.specs.Sited.{Sited}
 use Rattle.records.specs.Answer.{line-answer, Answered}
 use Rattle.records.specs.declared.answers.Turn.{Turn}
 use Rattle.records.specs.Turn.{Answers, Follows, Turned}
 
--- What the enums say.
-pub asks-as : {taken : List ℕ} {input : Input} {size used : ℕ} {r : Asked} {line : Line} {left : ℕ} {taken′ column : List ℕ} → r ≡ asked.Line line left
-    → Asks taken input size used r taken′ column → Left taken input size used left × TookWhole taken input line taken′ column
-asks-as {taken} {input} {size} {used} {taken′ = taken′} {column} e h = subst (λ (r : Asked). Asks taken input size used r taken′ column) e h
-
-pub unasked : {taken : List ℕ} {input : Input} {size used : ℕ} {r : Asked} {taken′ : List ℕ} (column : List ℕ) → r ≡ asked.WriteFailed
-    → Asks taken input size used r taken′ column → Due taken input size used × (taken′ ≡ taken)
-unasked {taken} {input} {size} {used} {taken′ = taken′} column e h = subst (λ (r : Asked). Asks taken input size used r taken′ column) e h
-
+-- What the enum says.
 pub turned-as : {text : Text} {taken : List ℕ} {input : Input} {block : List ℕ} {used : ℕ} {r r′ : Turn} {taken′ column block′ : List ℕ} → r ≡ r′
     → Turned text taken input block used r taken′ column block′ → Turned text taken input block used r′ taken′ column block′
 turned-as {text} {taken} {input} {block} {used} {taken′ = taken′} {column} {block′} e h =

@@ -19,10 +19,6 @@ use Rattle.site.specs.Sited.{OfText}
 abbrev pub longest-record : ℕ
 longest-record = 4096
 
--- A number of 64 bits and a newline.
-abbrev pub number-room : ℕ
-number-room = 21
-
 -- The line of the matcher's answer.
 abbrev pub judgement-line : Judgement → List ℕ
 judgement-line (judged.Refused number) = refusal-line (refusal number 0)

@@ -2,29 +2,21 @@
 use Prim.Native.Nat.{ℕ}
 use mathlib.Core.Path.{_≡_}
 use mathlib.Core.List.{List}
-use lib.ListN.{length}
 use Rattle.theory.specs.Refusal.{Refusal, success}
 use Rattle.theory.specs.Grammar.{Text}
 use Rattle.theory.specs.Record.{handed}
 use Rattle.theory.specs.Lines.{refusal-line}
 use Rattle.lines.specs.Output.{Put}
-use Rattle.site.specs.Rooms
-use Rattle.site.specs.Site.{Shown, Answer, withheld, Made}
+use Rattle.theory.specs.Report.{Report, withheld}
+use Rattle.site.specs.Site.{Shown, Made}
 use Rattle.site.specs.Sited.{Sited}
 use Rattle.records.specs.declared.Start.{Start}
 use Rattle.records.specs.declared.Start.the-variants.{Refused, Built}
 
--- 01: "Both have rooms of 512 entries, 1,024 expressions, 512 states, 4,096 arcs." Those of entries and expressions are `site`'s own.
-pub record InRooms (s : Shown) : Type 0 where
-  pub states : length (s .accepting) ≡ Rooms.states
-  pub from : length (s .arcs .from) ≡ Rooms.arcs
-  pub letter : length (s .arcs .letter) ≡ Rooms.arcs
-  pub to : length (s .arcs .to) ≡ Rooms.arcs
-
 abbrev pub Begins : Text → Shown → List ℕ → Start → Shown → List ℕ → Type 0
 Begins text s block (Refused used) s′ block′ = (r : Refusal) × Made text s (withheld r) s′ × Put (refusal-line r) block 0 block′ used
 Begins text s block (Built states arcs) s′ block′ =
-    (a : Answer) × Made text s a s′ × (a .refusal ≡ success) × (a .states ≡ states) × (a .arcs ≡ arcs)
+    (a : Report) × Made text s a s′ × (a .refusal ≡ success) × (a .states ≡ states) × (a .arcs ≡ arcs)
     × Sited text (handed states (s′ .accepting) arcs (s′ .arcs))
 
 -- What `automaton_of` owes.

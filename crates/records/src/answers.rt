@@ -13,9 +13,9 @@ ghost use Rattle.theory.specs.Arcs.{arc-columns};
 ghost use Rattle.theory.specs.Record.{handed, work, LongEnough};
 ghost use Rattle.theory.specs.Lines.{number-and, newline};
 ghost use Rattle.lines.specs.Input.{Inside, Whole};
-ghost use Rattle.lines.specs.Output.{Put, line-room};
+ghost use Rattle.lines.specs.Output.{Put, number-room, line-room};
 ghost use Rattle.site.specs.Sited.{Sited};
-ghost use Rattle.records.specs.Answer.{longest-record, judgement-line, number-room, Answered};
+ghost use Rattle.records.specs.Answer.{longest-record, judgement-line, Answered};
 ghost use Rattle.records.specs.Turn.{Turned};
 
 fn line(block: &mut [u8], used: usize, word: &[u8], n: usize) -> usize

@@ -16,9 +16,9 @@ ghost use Rattle.theory.specs.Arcs.{arc-columns};
 ghost use Rattle.theory.specs.Record.{handed};
 ghost use Rattle.lines.specs.Input.{Inside, line-bytes, Whole};
 ghost use Rattle.lines.specs.Output.{line-room};
-ghost use Rattle.site.specs.Site.{shown};
+ghost use Rattle.site.specs.Site.{shown, InRooms};
 ghost use Rattle.site.specs.Sited.{Sited};
-ghost use Rattle.records.specs.Start.{InRooms, Starts};
+ghost use Rattle.records.specs.Start.{Starts};
 
 // 01, refusal 16: "record line over 4,096 bytes".
 const RECORD: usize = 4096;

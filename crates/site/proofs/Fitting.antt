@@ -19,7 +19,7 @@ use Rattle.theory.proofs.Arcs.{even-arcs-iff}
 use Rattle.theory.proofs.BuilderRefusal.{over-iff, refusal-by}
 use Rattle.theory.proofs.Rows.{rows-tree, rows-refused-never}
 use Rattle.theory.proofs.Tests.{and-left, and-right}
-use Rattle.site.specs.Rooms
+use Rattle.theory.specs.Rooms
 use Rattle.site.specs.Site.{Shown, beside, site-refusal}
 
 even-beside : (s : Shown) → even (beside s) ≡ (eqb (length (s .accepting)) Rooms.states && even-arcs (s .arcs))

@@ -23,8 +23,9 @@ use Rattle.theory.proofs.Handing.{judged-so, accepted-exactly}
 use Rattle.theory.proofs.Rows.{rows-tree, rows-refused-never}
 use Rattle.theory.proofs.WellFormed.{Lettered, well-formed, tree-lettered}
 use Rattle.site.specs.declared.Site.{Site}
-use Rattle.site.specs.Rooms
-use Rattle.site.specs.Site.{Shown, Answer, needs, site-refusal, answered, holding, left-in, Made}
+use Rattle.theory.specs.Rooms
+use Rattle.theory.specs.Report.{Report, needs}
+use Rattle.site.specs.Site.{Shown, site-refusal, answered, holding, left-in, Made}
 use Rattle.site.specs.Values.{values}
 use Rattle.site.specs.Sited.{automaton-in, Sited, OfText, Judges, JudgedOver}
 use Rattle.site.proofs.Fitting.{Fits, fitting}
@@ -43,16 +44,16 @@ read-on (read e) s z = refl
 read-on (refused r) s z = z
 
 -- What a site without refusal made: of the expression that was read, its automaton in the columns.
-pub record BuiltFrom (text : Text) (q : Reading) (s : Shown) (answer : Answer) (s′ : Shown) : Type 0 where
+pub record BuiltFrom (text : Text) (q : Reading) (s : Shown) (answer : Report) (s′ : Shown) : Type 0 where
   pub read-as : Expressed text q
   pub fits : (site-refusal (read-as .expression) s) .number ≡ 0
   pub counts : answer ≡ needs (read-as .expression)
   pub holds : s′ ≡ holding (read-as .expression) s
 
-module _ {text : Text} {s : Shown} {answer : Answer} {s′ : Shown} (h : Made text s answer s′) (z : answer .refusal .number ≡ 0) where
+module _ {text : Text} {s : Shown} {answer : Report} {s′ : Shown} (h : Made text s answer s′) (z : answer .refusal .number ≡ 0) where
   pub built-from : BuiltFrom text (h .reading) s answer s′
   built-from =
-      let x = expressed (h .due) (read-on (h .reading) s (sym (ap (λ (a : Answer). a .refusal .number) (h .answers)) ∙ z)) in
+      let x = expressed (h .due) (read-on (h .reading) s (sym (ap (λ (a : Report). a .refusal .number) (h .answers)) ∙ z)) in
       let a = h .answers ∙ ap (λ (q : Reading). answered q s) (x .is) in
       let f = fits (x .expression) a in
       record {
@@ -65,15 +66,15 @@ module _ {text : Text} {s : Shown} {answer : Answer} {s′ : Shown} (h : Made te
       fits : (e : Expression) → answer ≡ answered (read e) s → (site-refusal e s) .number ≡ 0
       fits e a = elim (ℕ-discrete ((site-refusal e s) .number) 0) [
         | yes y ↦ y
-        | no n ↦ absurd (n (sym (ap (λ (b : Answer). b .refusal .number) (a ∙ answered-refused e s n)) ∙ z))
+        | no n ↦ absurd (n (sym (ap (λ (b : Report). b .refusal .number) (a ∙ answered-refused e s n)) ∙ z))
       ]
 
-pub handed-is : {text : Text} {q : Reading} {s : Shown} {answer : Answer} {s′ : Shown} (b : BuiltFrom text q s answer s′)
+pub handed-is : {text : Text} {q : Reading} {s : Shown} {answer : Report} {s′ : Shown} (b : BuiltFrom text q s answer s′)
     → handed (answer .states) (s′ .accepting) (answer .arcs) (s′ .arcs) ≡ automaton-in (b .read-as .expression) s
 unfolding automaton-in holding needs
 handed-is b = λ i. handed (b .counts i .states) (b .holds i .accepting) (b .counts i .arcs) (b .holds i .arcs)
 
-pub sited : {text : Text} {q : Reading} {s : Shown} {answer : Answer} {s′ : Shown} → BuiltFrom text q s answer s′
+pub sited : {text : Text} {q : Reading} {s : Shown} {answer : Report} {s′ : Shown} → BuiltFrom text q s answer s′
     → Sited text (handed (answer .states) (s′ .accepting) (answer .arcs) (s′ .arcs))
 sited {s = s} b = record {
   expression = b .read-as .expression;

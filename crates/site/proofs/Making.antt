@@ -26,8 +26,9 @@ use Rattle.theory.proofs.Rows.{rows-length, rows-tree, rows-refused-never}
 use Rattle.theory.proofs.Rows.Trees.{entries-positive}
 use Rattle.theory.proofs.States.{states-some}
 use Rattle.theory.proofs.WellFormed.{well-formed, tree-letters}
-use Rattle.site.specs.Rooms
-use Rattle.site.specs.Site.{Shown, entry-columns, beside, withheld, needs, site-refusal, unless-refused, answered, blank, holding, left-in, Made}
+use Rattle.theory.specs.Rooms
+use Rattle.theory.specs.Report.{withheld, needs}
+use Rattle.site.specs.Site.{Shown, entry-columns, beside, site-refusal, unless-refused, answered, blank, holding, left-in, Made}
 use Rattle.site.proofs.Counting.{lettered}
 use Rattle.site.proofs.Fitting.{site-built}
 

@@ -21,7 +21,8 @@ use Rattle.matcher.specs.declared.Judgement as matched
 use Rattle.matcher.specs.declared.Judgement.the-variants as judged
 use Rattle.site.specs.declared.Told.{Told}
 use Rattle.site.specs.Values.{spoken, kept-by, Settled}
-use Rattle.site.specs.Site.{Shown, Answer, withheld, needs, site-refusal, answered, blank, holding, left-in, Made}
+use Rattle.theory.specs.Report.{Report, withheld, needs}
+use Rattle.site.specs.Site.{Shown, site-refusal, answered, blank, holding, left-in, Made}
 use Rattle.site.specs.Sited.{Judges, told, JudgesText}
 use Rattle.site.proofs.Making.{unless-none, unless-some, answered-built, answered-refused, left-refused}
 use Rattle.site.proofs.Judging.{built-from, handed-is, sited, of-text, judged-over}
@@ -35,11 +36,11 @@ pub data RefusedBy (s : Shown) (r : Refusal) : Reading → Type 0 where
 
 by-answer : (q : Reading) (s : Shown) {r : Refusal} → withheld r ≡ answered q s → RefusedBy s r q
 unfolding answered needs
-by-answer (read e) s {r} h = no-room (ap (λ (a : Answer). a .refusal) (h ∙ answered-refused e s over)) over
+by-answer (read e) s {r} h = no-room (ap (λ (a : Report). a .refusal) (h ∙ answered-refused e s over)) over
   where
     over : (site-refusal e s) .number ≡ 0 → ⊥
-    over z = let q = ap (λ (a : Answer). a .states) (h ∙ answered-built e s z) in let p = states-some e in omega arith
-by-answer (refused r′) s {r} h = subst (λ (x : Refusal). RefusedBy s r (refused x)) (ap (λ (a : Answer). a .refusal) h) unread
+    over z = let q = ap (λ (a : Report). a .states) (h ∙ answered-built e s z) in let p = states-some e in omega arith
+by-answer (refused r′) s {r} h = subst (λ (x : Refusal). RefusedBy s r (refused x)) (ap (λ (a : Report). a .refusal) h) unread
 
 pub refused-by : {text : Text} {s s′ : Shown} {r : Refusal} (h : Made text s (withheld r) s′) → RefusedBy s r (h .reading)
 refused-by {s = s} h = by-answer (h .reading) s (h .answers)
@@ -49,7 +50,7 @@ pub refused-number : {text : Text} {s s′ : Shown} {r : Refusal} → Made text 
 unfolding needs
 refused-number h z =
     let b = built-from h z in
-    let q = ap (λ (a : Answer). a .states) (b .counts) in
+    let q = ap (λ (a : Report). a .states) (b .counts) in
     let p = states-some (b .read-as .expression) in
     omega arith
 
@@ -75,7 +76,7 @@ told-refused {w = w} {s} {k = k} {r = r} h q =
 
 -- ---- Where the matcher answers
 
-module _ {text : Text} {w : Word} {s : Shown} {a : Answer} {s₁ : Shown} (h : Made text s a s₁) (z : a .refusal .number ≡ 0)
+module _ {text : Text} {w : Word} {s : Shown} {a : Report} {s₁ : Shown} (h : Made text s a s₁) (z : a .refusal .number ≡ 0)
     {k : Work} {answer : Judgement} {k′ : Work} (j : Judged (handed (a .states) (s₁ .accepting) (a .arcs) (s₁ .arcs)) w k answer k′) where
   told-so : answer ≡ told (h .reading) s k w
   unfolding told
@@ -123,7 +124,7 @@ module _ {text : Text} {w : Word} {s : Shown} {a : Answer} {s₁ : Shown} (h : M
     cleared = j .cleared;
   }
 
-pub told-settled : {text : Text} {w : Word} {s s₁ s′ : Shown} {a : Answer} → Made text s a s₁ → a .refusal .number ≡ 0 → blank s₁ ≡ blank s
+pub told-settled : {text : Text} {w : Word} {s s₁ s′ : Shown} {a : Report} → Made text s a s₁ → a .refusal .number ≡ 0 → blank s₁ ≡ blank s
     → {k k′ : Work} (j : matched.Judgement) → Judged (handed (a .states) (s₁ .accepting) (a .arcs) (s₁ .arcs)) w k (values j) k′
     → {answer : Told} → Settled j s₁ answer s′ → JudgesText text w s k (spoken answer) s′ k′
 told-settled {text} {w} {s} {s₁} {s′} {a} h z b {k} {k′} j d {answer} t =

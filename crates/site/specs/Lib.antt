@@ -1,4 +1,4 @@
-pub mod Rooms
 pub mod Site
 pub mod Values
 pub mod Sited
+pub mod Totals

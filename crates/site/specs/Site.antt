@@ -5,7 +5,7 @@ use mathlib.Core.Bool.{Bool, true, false, cond, _&&_}
 use mathlib.Core.List.{List}
 use lib.ListN.{length}
 use lib.Dec.{eqb}
-use Rattle.theory.specs.Expression.{Expression, entries, letters}
+use Rattle.theory.specs.Expression.{Expression}
 use Rattle.theory.specs.Refusal.{Refusal, refusal, success, columns-differ, room-small}
 use Rattle.theory.specs.Column.{zeros, filled}
 use Rattle.theory.specs.Automaton.{states, accepting, expressions, arcs}
@@ -14,7 +14,8 @@ use Rattle.theory.specs.Table.{Table, table}
 use Rattle.theory.specs.Grammar.{Text, Reading, read, refused}
 use Rattle.theory.specs.Read.{Due}
 use Rattle.theory.specs.Build.{Lent, lent, over-room}
-use Rattle.site.specs.Rooms
+use Rattle.theory.specs.Rooms
+use Rattle.theory.specs.Report.{Report, withheld, needs}
 
 -- ---- What is lent
 
@@ -26,6 +27,13 @@ pub record Shown : Type 0 where
 abbrev pub shown : List ℕ → List ℕ → List ℕ → List ℕ → Shown
 shown acc f l t = record { accepting = acc; arcs = arc-columns f l t }
 
+-- 01: "Both have rooms of 512 entries, 1,024 expressions, 512 states, 4,096 arcs."
+pub record InRooms (s : Shown) : Type 0 where
+  pub states : length (s .accepting) ≡ Rooms.states
+  pub from : length (s .arcs .from) ≡ Rooms.arcs
+  pub letter : length (s .arcs .letter) ≡ Rooms.arcs
+  pub to : length (s .arcs .to) ≡ Rooms.arcs
+
 -- Entries, expressions and what the states name are looked at by no program: they have columns of the rooms' lengths.
 abbrev pub entry-columns : Table
 entry-columns = table (zeros Rooms.entries) (zeros Rooms.entries) (zeros Rooms.entries)
@@ -35,29 +43,6 @@ beside s =
     lent (table (zeros Rooms.expressions) (zeros Rooms.expressions) (zeros Rooms.expressions)) (zeros Rooms.states) (s .accepting) (s .arcs)
 
 -- ---- The answer
-
--- 01: "Success is 0 with place 0. A refusal returns its number and place and zero in every count".
-pub record Answer : Type 0 where
-  pub refusal : Refusal
-  pub entries : ℕ
-  pub letters : ℕ
-  pub states : ℕ
-  pub expressions : ℕ
-  pub arcs : ℕ
-
-abbrev pub withheld : Refusal → Answer
-withheld r = record { refusal = r; entries = 0; letters = 0; states = 0; expressions = 0; arcs = 0 }
-
-unfoldable pub needs : Expression → Answer
-unfolding entries letters states expressions arcs
-needs e = record {
-  refusal = success;
-  entries = entries e;
-  letters = length (letters e);
-  states = length (states e);
-  expressions = length (expressions e);
-  arcs = length (arcs e);
-}
 
 -- What is refused of an expression that was read: 1 where the accepting column is not as long as the room for states or the arc columns
 -- differ, and 9 where a need exceeds its room.
@@ -71,7 +56,7 @@ site-refusal e s =
 abbrev pub unless-refused : {A : Type 0} → Refusal → A → A → A
 unless-refused r a b = elim (eqb (r .number) 0) [ true ↦ a | false ↦ b ]
 
-unfoldable pub answered : Reading → Shown → Answer
+unfoldable pub answered : Reading → Shown → Report
 unfolding site-refusal needs
 answered (read e) s = unless-refused (site-refusal e s) (needs e) (withheld (site-refusal e s))
 answered (refused r) s = withheld r
@@ -93,7 +78,7 @@ left-in (read e) s = unless-refused (site-refusal e s) (holding e s) (blank s)
 left-in (refused r) s = blank s
 
 -- What `automaton` owes: what is not read is refused as the reader refuses it, and what is read is built.
-pub record Made (text : Text) (s : Shown) (answer : Answer) (s′ : Shown) : Type 0 where
+pub record Made (text : Text) (s : Shown) (answer : Report) (s′ : Shown) : Type 0 where
   pub reading : Reading
   pub due : Due text entry-columns reading
   pub answers : answer ≡ answered reading s

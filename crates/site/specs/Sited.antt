@@ -12,7 +12,7 @@ use Rattle.theory.specs.Grammar.{Text, Reading, read, refused, written, Writabl
 use Rattle.theory.specs.Read.{Due}
 use Rattle.theory.specs.Record.{Handed, handed, automaton, Work, cleared, verdict, live}
 use Rattle.theory.specs.Judge.{Judgement, given, withheld, judgement}
-use Rattle.site.specs.Rooms
+use Rattle.theory.specs.Rooms
 use Rattle.site.specs.Site.{Shown, entry-columns, site-refusal, unless-refused, holding, blank}
 
 -- The columns of s hold the automaton of e, and zero beyond it.

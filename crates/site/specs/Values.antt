@@ -7,13 +7,14 @@ use Rattle.theory.specs.Judge as judge
 use Rattle.matcher.specs.Answer.{values as judgement}
 use Rattle.matcher.specs.declared.Judgement as matched
 use Rattle.matcher.specs.declared.Judgement.the-variants as judged
-use Rattle.site.specs.Site.{Shown, Answer, withheld, blank}
+use Rattle.theory.specs.Report.{Report, withheld}
+use Rattle.site.specs.Site.{Shown, blank}
 use Rattle.site.specs.declared.Site.{Site}
 use Rattle.site.specs.declared.Site.the-variants.{Refused, Built}
 use Rattle.site.specs.declared.Told.{Told}
 use Rattle.site.specs.declared.Told.the-variants as told
 
-abbrev pub values : Site → Answer
+abbrev pub values : Site → Report
 values (Refused number place) = withheld (refusal number place)
 values (Built n m s x a) = record { refusal = success; entries = n; letters = m; states = s; expressions = x; arcs = a }
 

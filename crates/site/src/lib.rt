@@ -1,5 +1,7 @@
 // A text to its automaton and to the verdicts on records, as the programs make them.
 
+pub mod totals;
+
 use builder::Building;
 use matcher::Judgement;
 use reader::Reading;

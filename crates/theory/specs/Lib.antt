@@ -19,4 +19,6 @@ pub mod Verdict
 pub mod Read
 pub mod Build
 pub mod Judge
+pub mod Rooms
+pub mod Report
 pub mod Lines

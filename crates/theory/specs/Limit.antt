@@ -25,3 +25,7 @@ most-arcs = 16777216
 -- A letter is "1 to 255".
 abbrev pub last-letter : ℕ
 last-letter = 255
+
+-- 2026-01, refusal 22: "more than 100,000 lines".
+abbrev pub most-lines : ℕ
+most-lines = 100000

@@ -2,11 +2,14 @@
 use Prim.Native.Nat.{ℕ, zero, suc, _+_, _/_, _%_}
 use mathlib.Core.Bool.{cond}
 use mathlib.Core.List.{List, [], _∷_, _++_, flatMap}
-use lib.ListN.{length, getD}
+use lib.ListN.{length, getD, take}
 use lib.Dec.{ltb, eqb}
 use Rattle.theory.specs.Expression.{Expression}
 use Rattle.theory.specs.Automaton.{Arc, ascending, states, accepting, arcs}
-use Rattle.theory.specs.Refusal.{Refusal}
+use Rattle.theory.specs.Refusal.{Refusal, refusal, lines-many}
+use Rattle.theory.specs.Limit.{most-lines}
+use Rattle.theory.specs.Grammar.{Text}
+use Rattle.theory.specs.Report.{Report, Totals, is-built, report, totals}
 use Rattle.theory.specs.Record.{Verdict, accepted, unfinished, wrong}
 
 -- "label a decimal number": one below 10 is its digit, another is its tenth and its last digit. The steps are never more than the number.
@@ -65,7 +68,7 @@ verdict-line accepted live = accepted-word ++ number-and live newline
 verdict-line unfinished live = unfinished-word ++ number-and live newline
 verdict-line (wrong p) live = wrong-word ++ number-and p newline
 
--- ---- Both
+-- ---- All
 
 -- `refused `
 abbrev pub refused-word : List ℕ
@@ -74,3 +77,26 @@ refused-word = 114 ∷ 101 ∷ 102 ∷ 117 ∷ 115 ∷ 101 ∷ 100 ∷ 32 ∷ []
 -- "Both print `refused R P` (number, place) on a refusal"
 abbrev pub refusal-line : Refusal → List ℕ
 refusal-line r = refused-word ++ number-and (r .number) space ++ number-and (r .place) newline
+
+-- ---- The room report
+
+-- "single-spaced": some numbers and a last one on a line.
+unfoldable pub row : List ℕ → ℕ → List ℕ
+unfolding flatMap decimal
+row numbers last = flatMap (λ n. number-and n space) numbers ++ number-and last newline
+
+-- "per line, single-spaced, entries, letters, states, expressions and arcs, or the refusal"
+abbrev pub report-line : Report → List ℕ
+report-line r =
+    cond (is-built r) (row (r .entries ∷ r .letters ∷ r .states ∷ r .expressions ∷ []) (r .arcs)) (refusal-line (r .refusal))
+
+-- "a last line of totals"
+abbrev pub totals-line : Totals → List ℕ
+totals-line t = row (t .built ∷ t .states ∷ t .powers ∷ []) (t .few)
+
+-- "22, more than 100,000 lines, printed after the first 100,000 in place of the totals"
+unfoldable pub room-report : List Text → List ℕ
+unfolding flatMap report totals decimal
+room-report texts =
+    flatMap (λ t. report-line (report t)) (take most-lines texts)
+    ++ cond (ltb most-lines (length texts)) (refusal-line (refusal lines-many 0)) (totals-line (totals texts))

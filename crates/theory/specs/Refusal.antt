@@ -66,3 +66,7 @@ too-many-entries = 15
 -- the records program's own: no library call gives it
 abbrev pub record-long : ℕ
 record-long = 16
+
+-- the room report's own
+abbrev pub lines-many : ℕ
+lines-many = 22

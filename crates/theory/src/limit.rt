@@ -14,3 +14,5 @@ pub const STATES: usize = 65535;
 pub const ARCS: usize = 16777216;
 // A letter is "1 to 255".
 pub const LETTER: u16 = 255;
+// 2026-01, refusal 22: "more than 100,000 lines".
+pub const LINES: u64 = 100000;

@@ -31,3 +31,5 @@ pub const TOO_DEEP: u8 = 14;
 pub const TOO_MANY_ENTRIES: u8 = 15;
 // The records program's own: no library call gives it.
 pub const RECORD_LONG: u8 = 16;
+// The room report's own.
+pub const LINES_MANY: u8 = 22;

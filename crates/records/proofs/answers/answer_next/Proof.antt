@@ -5,7 +5,8 @@ use lib.ListN.{length}
 use Rattle.lines.specs.Input.{TookWhole}
 use Rattle.lines.specs.Turn.{Left}
 use Rattle.lines.proofs.WholeLine.{whole}
-use Rattle.records.proofs.Turning.{asks-as, unasked, answers, no-line, failed as read-failed}
+use Rattle.lines.proofs.Waiting.{asks-as, unasked}
+use Rattle.records.proofs.Turning.{answers, no-line, failed as read-failed}
 use Rattle.records.proofs.answers.answer_next.Statement.{statement}
 use Rattle.records.proofs.answers.answer_next.Tie as tie
 

@@ -1,0 +1,60 @@
+// 2026-01: "lines built, the sum of their states, and, for built lines with m at most 10 alone, the sums of 2^m and of states".
+
+use crate::Site;
+ghost use mathlib.Core.Path.{_≡_};
+ghost use Rattle.site.specs.Values.{values as reported};
+ghost use Rattle.site.specs.Totals.{values, with-report, Fits, Told};
+
+pub struct Totals {
+    pub built: u64,
+    pub states: u64,
+    pub powers: u64,
+    pub few: u64,
+}
+
+impl Totals {
+    pub fn none() -> Totals
+        ensures { λ r. ⌜ values r ≡ record { built = 0; states = 0; powers = 0; few = 0 } ⌝ }
+    {
+        Totals {
+            built: 0,
+            states: 0,
+            powers: 0,
+            few: 0,
+        }
+    }
+}
+
+// "m at most 10"
+const SMALL: usize = 10;
+
+// The totals with what one more text came to.
+pub fn with(totals: Totals, site: Site) -> Totals
+    requires { ⌜ Told (reported site) × Fits (with-report (values totals) (reported site)) ⌝ }
+    ensures { λ r. ⌜ values r ≡ with-report (values totals) (reported site) ⌝ }
+{
+    let Site::Built {
+        entries: _,
+        letters,
+        states,
+        expressions: _,
+        arcs: _,
+    } = site
+    else {
+        return totals;
+    };
+    if letters > SMALL {
+        return Totals {
+            built: totals.built + 1,
+            states: totals.states + states as u64,
+            powers: totals.powers,
+            few: totals.few,
+        };
+    }
+    Totals {
+        built: totals.built + 1,
+        states: totals.states + states as u64,
+        powers: totals.powers + (1u64 << letters),
+        few: totals.few + states as u64,
+    }
+}
