@@ -9,6 +9,7 @@ pub mod Mistakes
 pub mod Limits
 pub mod Site
 pub mod TextCauses
+pub mod RoomReport
 pub mod DemandOne
 pub mod JudgesSo
 pub mod Handing

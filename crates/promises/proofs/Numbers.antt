@@ -22,6 +22,7 @@ numbers-are = record {
     too-deep = refl;
     too-many-entries = refl;
     record-long = refl;
+    lines-many = refl;
   };
   limits = record {
     most-entries = refl;
@@ -31,6 +32,7 @@ numbers-are = record {
     most-states = refl;
     most-arcs = refl;
     last-letter = refl;
+    most-lines = refl;
   };
   rooms = record { entries = refl; expressions = refl; states = refl; arcs = refl };
 }

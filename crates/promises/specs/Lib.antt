@@ -11,6 +11,7 @@ pub mod Printed
 pub mod Mistakes
 pub mod Limits
 pub mod Site
+pub mod RoomReport
 pub mod DemandOne
 pub mod DemandTwo
 pub mod DemandThree

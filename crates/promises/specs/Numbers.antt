@@ -23,6 +23,8 @@ pub record RefusalsAre : Type 0 where
   pub too-deep : Refusal.too-deep ≡ 14
   pub too-many-entries : Refusal.too-many-entries ≡ 15
   pub record-long : Refusal.record-long ≡ 16
+  -- 2026-01
+  pub lines-many : Refusal.lines-many ≡ 22
 
 pub record LimitsAre : Type 0 where
   -- "A table has 1 to 512 entries."
@@ -36,6 +38,8 @@ pub record LimitsAre : Type 0 where
   pub most-arcs : Limit.most-arcs ≡ 16777216
   -- "letter | 1 to 255"
   pub last-letter : Limit.last-letter ≡ 255
+  -- 2026-01: "more than 100,000 lines"
+  pub most-lines : Limit.most-lines ≡ 100000
 
 -- "Both have rooms of 512 entries, 1,024 expressions, 512 states, 4,096 arcs."
 pub record RoomsAre : Type 0 where

@@ -13,25 +13,21 @@ use Rattle.theory.specs.Limit.{most-lines, longest-text}
 use Rattle.theory.specs.Refusal.{refusal, lines-many}
 use Rattle.theory.specs.Grammar.{Text}
 use Rattle.theory.specs.Report.{Totals, totals, report}
-use Rattle.theory.specs.Lines.{report-line, totals-line, refusal-line, room-report}
+use Rattle.theory.specs.Lines.{report-line, totals-line, refusal-line, reports, room-report}
 use Rattle.theory.proofs.Members.{flatMap-append}
 use Rattle.lines.specs.declared.input.Input.{Input}
-use Rattle.lines.specs.Input.{Inside, Comes}
+use Rattle.lines.specs.Input.{Inside, untaken, Unbroken, Comes}
 use Rattle.lines.specs.Output.{Put, line-room}
 use Rattle.lines.proofs.Taking.{inside-start}
-use Rattle.lines.specs.Turn.{Left, Lines, no-line, one-more}
+use Rattle.lines.specs.Turn.{Left, Due, Lines, no-line, one-more}
 use Rattle.site.specs.Totals.{values, with-report, Fits}
-use Rattle.site.proofs.Reporting.{totals-more, totals-fit}
+use Rattle.site.proofs.Totalling.{totals-more, totals-fit}
 use Rattle.rooms.specs.declared.answers.Standing.{Standing}
 use Rattle.rooms.specs.declared.answers.Turn.{Turn}
 use Rattle.rooms.specs.declared.Reported.{Reported}
 use Rattle.rooms.specs.declared.Reported.the-variants.{All, ReadFailed, WriteFailed}
 use Rattle.rooms.specs.Turn.{Answers, Turned}
-use Rattle.rooms.specs.Reported.{Ending, no-more, too-many, Ends, Whole, Reports}
-
-unfoldable pub reports : List Text → List ℕ
-unfolding flatMap
-reports texts = flatMap (λ t. report-line (report t)) texts
+use Rattle.rooms.specs.Reported.{Ending, no-more, too-many, Ends, Whole, Stopped, Reports}
 
 reports-more : (texts : List Text) (t : Text) → reports (texts ++ t ∷ []) ≡ reports texts ++ report-line (report t)
 unfolding reports flatMap
@@ -39,12 +35,12 @@ reports-more texts t =
     flatMap-append (λ x. report-line (report x)) texts (t ∷ []) ∙ ap (λ (x : List ℕ). reports texts ++ x) (append-nil (report-line (report t)))
 
 room-few : (texts : List Text) → length texts ≤ most-lines → room-report texts ≡ reports texts ++ totals-line (totals texts)
-unfolding room-report reports
+unfolding room-report
 room-few texts l = rw (take-all most-lines texts l, le-ltb most-lines (length texts) l, cond)
 
 room-many : (texts : List Text) (t : Text) → length texts ≡ most-lines
     → room-report (texts ++ t ∷ []) ≡ reports texts ++ refusal-line (refusal lines-many 0)
-unfolding room-report reports
+unfolding room-report
 room-many texts t e =
     let n = length-append texts (t ∷ []) in
     let first : take most-lines (texts ++ t ∷ []) ≡ texts = ap (λ (k : ℕ). take k (texts ++ t ∷ [])) (sym e) ∙ take-append-seam texts (t ∷ []) in
@@ -153,15 +149,16 @@ module _ {taken₀ : List ℕ} {input₀ : Input} {taken : List ℕ} {input : In
       }
 
   -- No further line: the totals.
-  pub whole-report : {left : ℕ} {block′ : List ℕ} {used′ : ℕ} → Left taken input (length block) used left → Put (totals-line t) block left block′ used′
-      → Whole taken₀ input₀ block′ used′
-  whole-report l p =
+  pub whole-report : {left : ℕ} {block′ : List ℕ} {used′ : ℕ} → Left taken input (length block) used left → untaken taken input ≡ []
+      → Put (totals-line t) block left block′ used′ → Whole taken₀ input₀ block′ used′
+  whole-report l none p =
       let s = stands (g .shown) l p in
       record {
         texts = g .texts;
         after = taken;
         end = input;
         lines = g .taken-lines;
+        all = inl none;
         shown = s .shown′;
         is = s .is ∙ ap₂ (λ (x : List ℕ) (y : Totals). x ++ totals-line y) (g .answers) (g .totalled) ∙ sym (room-few (g .texts) (let n = g .counted in let f = g .few in omega arith));
         within = s .within;
@@ -178,6 +175,7 @@ module _ {taken₀ : List ℕ} {input₀ : Input} {taken : List ℕ} {input : In
         after = taken′;
         end = input′;
         lines = one-more (g .taken-lines) c;
+        all = inr (let n = g .counted in let k = length-append (g .texts) (text ∷ []) in omega arith);
         shown = s .shown′;
         is = s .is ∙ ap (λ (x : List ℕ). x ++ refusal-line (refusal lines-many 0)) (g .answers) ∙ sym (room-many (g .texts) text (g .counted ∙ full));
         within = s .within;
@@ -185,11 +183,30 @@ module _ {taken₀ : List ℕ} {input₀ : Input} {taken : List ℕ} {input : In
 
   pub ended : {left : ℕ} {taken′ block′ : List ℕ} {used′ : ℕ} → lines ≡ most-lines → Left taken input (length block) used left
       → Ending taken input t block left taken′ block′ used′ → Whole taken₀ input₀ block′ used′
-  ended full l (no-more e p) = whole-report l p
+  ended full l (no-more e p) = whole-report l e p
   ended full l (too-many text input′ c p) = cut-report full l c p
+
+  -- A read or a write failed: the block is as it was.
+  pub read-stopped : {block′ : List ℕ} → Unbroken (untaken taken input) → Reports taken₀ input₀ ReadFailed block′
+  read-stopped u = (taken, input, record {
+    texts = g .texts;
+    few = let n = g .counted in let f = g .few in omega arith;
+    lines = g .taken-lines;
+    shown = g .shown ++ take used block;
+    is = append-nil (g .shown ++ take used block) ∙ g .answers;
+  }, u)
+
+  pub write-stopped : {block′ : List ℕ} → block′ ≡ block → Due taken input (length block) used → Reports taken₀ input₀ WriteFailed block′
+  write-stopped {block′} same d = (used, taken, input, record {
+    texts = g .texts;
+    few = let n = g .counted in let f = g .few in omega arith;
+    lines = g .taken-lines;
+    shown = g .shown;
+    is = ap (λ (b : List ℕ). g .shown ++ take used b) same ∙ g .answers;
+  }, subst (λ (b : List ℕ). Due taken input (length b) used) (sym same) d)
 
   pub reported : (r : Reported) (taken′ block′ : List ℕ) → lines ≡ most-lines → Ends taken input t block used r taken′ block′
       → Reports taken₀ input₀ r block′
   reported (All used′) taken′ block′ full e = ended full (e .1) (e .2)
-  reported ReadFailed taken′ block′ full e = tt
-  reported WriteFailed taken′ block′ full e = tt
+  reported ReadFailed taken′ block′ full e = read-stopped (e .0)
+  reported WriteFailed taken′ block′ full e = write-stopped (e .2) (e .0)

@@ -10,7 +10,7 @@ use Rattle.theory.specs.Lines.{report-line}
 use Rattle.lines.specs.declared.input.Input.{Input}
 use Rattle.lines.specs.Input.{Inside, untaken, Unbroken, Comes}
 use Rattle.lines.specs.Output.{Put, line-room}
-use Rattle.lines.specs.Turn.{Left}
+use Rattle.lines.specs.Turn.{Left, Due}
 use Rattle.site.specs.Totals.{values, with-report}
 use Rattle.rooms.specs.declared.answers.Standing.{Standing}
 use Rattle.rooms.specs.declared.answers.Turn.{Turn}
@@ -31,13 +31,14 @@ pub record Answers (taken : List ℕ) (input : Input) (totals : Totals) (block :
   pub leaves : Left taken input (length block) used left
   pub answered : Answered text totals block left standing block′
 
--- Where the input ends or a read fails, nothing is left to be written.
+-- Where the input ends or a read fails, nothing is left to be written. A write fails only where one is due, and then no line is taken.
 abbrev pub Turns : List ℕ → Input → Totals → List ℕ → ℕ → Turn → List ℕ → List ℕ → Type 0
 Turns taken input totals block used (Next input′ standing) taken′ block′ =
     (text : Text) × Answers taken input totals block used text taken′ input′ standing block′
 Turns taken input totals block used End taken′ block′ = (untaken taken input ≡ []) × Left taken input (length block) used 0 × (block′ ≡ block)
-Turns taken input totals block used ReadFailed taken′ block′ = Unbroken (untaken taken input)
-Turns taken input totals block used WriteFailed taken′ block′ = Unit {0}
+Turns taken input totals block used ReadFailed taken′ block′ =
+    Unbroken (untaken taken input) × Left taken input (length block) used 0 × (block′ ≡ block)
+Turns taken input totals block used WriteFailed taken′ block′ = Due taken input (length block) used × (taken′ ≡ taken) × (block′ ≡ block)
 
 -- What `answer_next` owes.
 pub record Turned (taken : List ℕ) (input : Input) (totals : Totals) (block : List ℕ) (used : ℕ) (turn : Turn) (taken′ block′ : List ℕ) : Type 0 where

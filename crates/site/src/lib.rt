@@ -18,7 +18,7 @@ ghost use Rattle.site.specs.Values.{values, spoken, Settled};
 ghost use Rattle.site.specs.Sited.{Sited, JudgedOver, JudgesText};
 
 // 01: "Both have rooms of 512 entries, 1,024 expressions, 512 states, 4,096 arcs." The same numbers stand under the same names in
-// specs/Rooms.antt.
+// theory's specs/Rooms.antt.
 pub const ENTRIES: usize = 512;
 
 pub const EXPRESSIONS: usize = 1024;

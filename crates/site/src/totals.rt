@@ -3,7 +3,7 @@
 use crate::Site;
 ghost use mathlib.Core.Path.{_≡_};
 ghost use Rattle.site.specs.Values.{values as reported};
-ghost use Rattle.site.specs.Totals.{values, with-report, Fits, Told};
+ghost use Rattle.site.specs.Totals.{values, of-one, with-report, Fits, Told};
 
 pub struct Totals {
     pub built: u64,
@@ -28,10 +28,10 @@ impl Totals {
 // "m at most 10"
 const SMALL: usize = 10;
 
-// The totals with what one more text came to.
-pub fn with(totals: Totals, site: Site) -> Totals
-    requires { ⌜ Told (reported site) × Fits (with-report (values totals) (reported site)) ⌝ }
-    ensures { λ r. ⌜ values r ≡ with-report (values totals) (reported site) ⌝ }
+// What one text adds.
+fn of_one(site: Site) -> Totals
+    requires { ⌜ Told (reported site) ⌝ }
+    ensures { λ r. ⌜ values r ≡ of-one (reported site) ⌝ }
 {
     let Site::Built {
         entries: _,
@@ -41,20 +41,40 @@ pub fn with(totals: Totals, site: Site) -> Totals
         arcs: _,
     } = site
     else {
-        return totals;
+        return Totals {
+            built: 0,
+            states: 0,
+            powers: 0,
+            few: 0,
+        };
     };
+    let states = states as u64;
     if letters > SMALL {
         return Totals {
-            built: totals.built + 1,
-            states: totals.states + states as u64,
-            powers: totals.powers,
-            few: totals.few,
+            built: 1,
+            states,
+            powers: 0,
+            few: 0,
         };
     }
     Totals {
-        built: totals.built + 1,
-        states: totals.states + states as u64,
-        powers: totals.powers + (1u64 << letters),
-        few: totals.few + states as u64,
+        built: 1,
+        states,
+        powers: 1u64 << letters,
+        few: states,
+    }
+}
+
+// The totals with what one more text came to.
+pub fn with(totals: Totals, site: Site) -> Totals
+    requires { ⌜ Told (reported site) × Fits (with-report (values totals) (reported site)) ⌝ }
+    ensures { λ r. ⌜ values r ≡ with-report (values totals) (reported site) ⌝ }
+{
+    let one = of_one(site);
+    Totals {
+        built: totals.built + one.built,
+        states: totals.states + one.states,
+        powers: totals.powers + one.powers,
+        few: totals.few + one.few,
     }
 }

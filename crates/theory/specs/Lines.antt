@@ -94,9 +94,14 @@ report-line r =
 abbrev pub totals-line : Totals → List ℕ
 totals-line t = row (t .built ∷ t .states ∷ t .powers ∷ []) (t .few)
 
+-- "prints per line"
+unfoldable pub reports : List Text → List ℕ
+unfolding flatMap report decimal
+reports texts = flatMap (λ t. report-line (report t)) texts
+
 -- "22, more than 100,000 lines, printed after the first 100,000 in place of the totals"
 unfoldable pub room-report : List Text → List ℕ
-unfolding flatMap report totals decimal
+unfolding reports totals decimal
 room-report texts =
-    flatMap (λ t. report-line (report t)) (take most-lines texts)
+    reports (take most-lines texts)
     ++ cond (ltb most-lines (length texts)) (refusal-line (refusal lines-many 0)) (totals-line (totals texts))

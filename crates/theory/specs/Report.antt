@@ -84,7 +84,7 @@ abbrev pub is-small : Report → Bool
 is-small r = ltb (r .letters) 11
 
 unfoldable pub totals : List Text → Totals
-unfolding map those sum report
+unfolding those sum report
 totals texts =
     let built = those is-built (map report texts) in
     let small = those is-small built in

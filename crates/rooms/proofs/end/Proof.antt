@@ -1,11 +1,13 @@
 -- `end` looks for a line more.
 use borrow.Author.Needs.{needs}
+use mathlib.Core.Path.{refl}
 use lib.ListN.{length}
 use Rattle.lines.specs.Input.{TookWhole}
 use Rattle.lines.specs.Turn.{Left}
-use Rattle.lines.proofs.Waiting.{asks-as}
-use Rattle.lines.proofs.WholeLine.{took}
+use Rattle.lines.proofs.Waiting.{asks-as, unasked}
+use Rattle.lines.proofs.WholeLine.{took, failed-waits}
 use Rattle.rooms.specs.Reported.{no-more, too-many}
+use Rattle.rooms.proofs.Answering.{all-shown}
 use Rattle.rooms.proofs.end.Statement.{statement}
 use Rattle.rooms.proofs.end.Tie as tie
 
@@ -19,6 +21,9 @@ known c = c .before .before .before
 
 abbrev start : tie.After-ask → tie.Start
 start c = known (lent c) .before
+
+abbrev failing : tie.After-enum-told → tie.After-ask
+failing c = let k = c .before .before .before in k .before .before .before
 
 abbrev home : tie.After-line → tie.After-column
 home c = c .before .before .before
@@ -39,12 +44,24 @@ asks c = asks-as (c .line .given .1) (asked c .ask .ensures)
 
 -- ---- The needs
 
+unwritten : tie.Need-returns
+unwritten c =
+    let a = failing c in
+    let h = unasked (a .ask .last .1 .1 .0) (c .enum-told .given .1) (a .ask .ensures) in
+    (h .0, h .1, refl)
+
 none : tie.Need-returns-2
 none c =
     let p = c .before .before in
     let e = p .before .before in
     let k = asks (e .before .before .before) in
     (_, k .0, no-more (took (e .enum-told2 .given .1) (k .1) .holds) (p .last-line .ensures .0))
+
+failed : tie.Need-returns-3
+failed c =
+    let k = asks (c .before .before .before) in
+    let t = took (c .enum-told3 .given .1) (k .1) in
+    (t .holds, all-shown (k .0) (failed-waits t), refl)
 
 ended : tie.Need-returns-4
 ended c =
@@ -65,7 +82,12 @@ full c =
 pub end-spec : {M : Type 1} → statement M
 end-spec =
     tie.close
-    (tie.spec (λ c κs. search needs) (λ c. search needs) (λ c. search needs) (λ c. search needs) (λ c. search needs) (λ c. search needs) (λ c. search needs) (λ c. search needs)
-    (λ c κs. asks (c .before .before .before .before) .0 .room) (λ c. search needs) (λ c. search needs) (λ c κs. asks (c .before .before .before .before) .0 .room) (λ c. search needs)
+    (tie.spec (λ c κs. search needs) (λ c. search needs) (λ c. search needs)
+    (λ c. search needs) (λ c. search needs) (λ c. search needs) unwritten
+    (λ c. search needs) (λ c κs. asks (c .before .before .before .before) .0 .room) (λ c. search needs) (λ c. search needs)
+    (λ c κs. asks (c .before .before .before .before) .0 .room) (λ c. search needs)
     (λ c κs. asks (c .before .before .before .before) .0 .room)
-    (λ c. search needs) (λ c. search needs) (λ c. search needs) none (λ c. search needs) (λ c. search needs) (λ c. search needs) (λ c. search needs) (λ c. search needs) (λ c. search needs) (λ c. search needs) ended (λ c. search needs) (λ c. search needs) (λ c. search needs) full)
+    (λ c. search needs) (λ c. search needs) (λ c. search needs) none
+    (λ c. search needs) (λ c. search needs) (λ c. search needs) failed
+    (λ c. search needs) (λ c. search needs) (λ c. search needs) ended
+    (λ c. search needs) (λ c. search needs) (λ c. search needs) full)

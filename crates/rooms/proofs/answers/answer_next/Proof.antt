@@ -5,8 +5,8 @@ use mathlib.Core.Path.{refl, _∙_}
 use lib.ListN.{length}
 use Rattle.lines.specs.Input.{TookWhole}
 use Rattle.lines.specs.Turn.{Left}
-use Rattle.lines.proofs.Waiting.{asks-as}
-use Rattle.lines.proofs.WholeLine.{took, no-line-waits}
+use Rattle.lines.proofs.Waiting.{asks-as, unasked}
+use Rattle.lines.proofs.WholeLine.{took, no-line-waits, failed-waits}
 use Rattle.rooms.proofs.Answering.{all-shown, turned-ended, turned-full}
 use Rattle.rooms.proofs.answers.answer_next.Statement.{statement}
 use Rattle.rooms.proofs.answers.answer_next.Tie as tie
@@ -21,6 +21,9 @@ known c = c .before .before .before
 
 abbrev start : tie.After-ask → tie.Start
 start c = known (lent c) .before
+
+abbrev failing : tie.After-enum-told → tie.After-ask
+failing c = let k = c .before .before .before in k .before .before .before
 
 abbrev home : tie.After-line → tie.After-column
 home c = c .before .before .before
@@ -65,6 +68,12 @@ answer-asked c κs = let l = of-ended (ended-bytes (c .before)) in (start (asked
 answer-asked2 : tie.Need-answer-requires-2
 answer-asked2 c κs = let l = of-full (full-bytes (c .before)) in (start (asked l) .pre .1 .1 _, asks l .0 .room)
 
+unwritten : tie.Need-returns
+unwritten c =
+    let a = failing c in
+    let h = unasked (a .ask .last .1 .1 .0) (c .enum-told .given .1) (a .ask .ensures) in
+    record { turns = (h .0, h .1, refl) }
+
 none : tie.Need-returns-2
 none c =
     let k = asks (c .before .before .before) in
@@ -72,7 +81,10 @@ none c =
     record { turns = (t .holds, all-shown (k .0) (no-line-waits t), refl) }
 
 failed : tie.Need-returns-3
-failed c = let l = c .before .before .before in record { turns = took (c .enum-told3 .given .1) (asks l .1) .holds }
+failed c =
+    let k = asks (c .before .before .before) in
+    let t = took (c .enum-told3 .given .1) (k .1) in
+    record { turns = (t .holds, all-shown (k .0) (failed-waits t), refl) }
 
 ended : tie.Need-returns-4
 ended c =
@@ -94,6 +106,10 @@ full c =
 pub answer-next-spec : {M : Type 1} → statement M
 answer-next-spec =
     tie.close
-    (tie.spec (λ c κs. search needs) (λ c. search needs) (λ c. search needs) (λ c. search needs) (λ c. search needs) (λ c. search needs) (λ c. search needs) (λ c. search needs) (λ c. search needs)
-    (λ c. search needs) bytes-asked answer-asked (λ c. search needs) (λ c κs. search needs) answer-asked2
-    (λ c. search needs) (λ c. search needs) (λ c. search needs) none (λ c. search needs) (λ c. search needs) (λ c. search needs) failed (λ c. search needs) (λ c. search needs) (λ c. search needs) ended (λ c. search needs) (λ c. search needs) (λ c. search needs) full)
+    (tie.spec (λ c κs. search needs) (λ c. search needs) (λ c. search needs)
+    (λ c. search needs) (λ c. search needs) (λ c. search needs) unwritten
+    (λ c. search needs) (λ c. search needs) (λ c. search needs) bytes-asked answer-asked (λ c. search needs) (λ c κs. search needs) answer-asked2
+    (λ c. search needs) (λ c. search needs) (λ c. search needs) none
+    (λ c. search needs) (λ c. search needs) (λ c. search needs) failed
+    (λ c. search needs) (λ c. search needs) (λ c. search needs) ended
+    (λ c. search needs) (λ c. search needs) (λ c. search needs) full)
