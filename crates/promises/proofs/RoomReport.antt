@@ -15,7 +15,7 @@ use Rattle.theory.specs.Grammar.{Text, Reading, read, refused, written}
 use Rattle.theory.specs.Scan.{scan}
 use Rattle.theory.specs.Report as theory
 use Rattle.theory.specs.Report.{Report, withheld, needs, too-large, reading, of-reading, report, Totals, totals, is-built, is-small}
-use Rattle.theory.specs.Lines.{decimal, reports, room-report}
+use Rattle.theory.specs.Lines.{row, room-report}
 use Rattle.site.specs.Site.{Shown, InRooms, entry-columns, answered, left-in, Made}
 use Rattle.site.specs.Totals.{of-one, with-report, Fits}
 use Rattle.site.proofs.Reporting.{due-is, is-due, made-reports}
@@ -116,5 +116,5 @@ totals-fit = record {
 -- ---- A report
 
 pub sample : Sample
-unfolding room-report reports totals decimal
+unfolding room-report row written joined
 sample = record { report = refl }
