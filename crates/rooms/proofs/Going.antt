@@ -188,22 +188,33 @@ module _ {taken₀ : List ℕ} {input₀ : Input} {taken : List ℕ} {input : In
 
   -- A read or a write failed: the block is as it was.
   pub read-stopped : {block′ : List ℕ} → Unbroken (untaken taken input) → Reports taken₀ input₀ ReadFailed block′
-  read-stopped u = (taken, input, record {
-    texts = g .texts;
-    few = let n = g .counted in let f = g .few in omega arith;
-    lines = g .taken-lines;
-    shown = g .shown ++ take used block;
-    is = append-nil (g .shown ++ take used block) ∙ g .answers;
-  }, u)
+  read-stopped u = (
+    taken,
+    input,
+    record {
+      texts = g .texts;
+      few = let n = g .counted in let f = g .few in omega arith;
+      lines = g .taken-lines;
+      shown = g .shown ++ take used block;
+      is = append-nil (g .shown ++ take used block) ∙ g .answers;
+    },
+    u,
+  )
 
   pub write-stopped : {block′ : List ℕ} → block′ ≡ block → Due taken input (length block) used → Reports taken₀ input₀ WriteFailed block′
-  write-stopped {block′} same d = (used, taken, input, record {
-    texts = g .texts;
-    few = let n = g .counted in let f = g .few in omega arith;
-    lines = g .taken-lines;
-    shown = g .shown;
-    is = ap (λ (b : List ℕ). g .shown ++ take used b) same ∙ g .answers;
-  }, subst (λ (b : List ℕ). Due taken input (length b) used) (sym same) d)
+  write-stopped {block′} same d = (
+    used,
+    taken,
+    input,
+    record {
+      texts = g .texts;
+      few = let n = g .counted in let f = g .few in omega arith;
+      lines = g .taken-lines;
+      shown = g .shown;
+      is = ap (λ (b : List ℕ). g .shown ++ take used b) same ∙ g .answers;
+    },
+    subst (λ (b : List ℕ). Due taken input (length b) used) (sym same) d,
+  )
 
   pub reported : (r : Reported) (taken′ block′ : List ℕ) → lines ≡ most-lines → Ends taken input t block used r taken′ block′
       → Reports taken₀ input₀ r block′

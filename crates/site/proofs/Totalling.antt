@@ -140,8 +140,8 @@ power-within : (t : Text) → (of-one (report t)) .powers ≤ 1024
 power-within t =
     some-within (is-built (report t) && is-small (report t))
     (λ e.
-      let l = ltb-true ((report t) .letters) 11 (and-right (is-built (report t)) _ e) in
-      let m : (report t) .letters ≤ 10 = omega arith in pow-mono m)
+    let l = ltb-true ((report t) .letters) 11 (and-right (is-built (report t)) _ e) in
+    let m : (report t) .letters ≤ 10 = omega arith in pow-mono m)
 
 sum-within : (f : Report → ℕ) (k : ℕ) (texts : List Text) → ((t : Text) → f (report t) ≤ k) → sum f (map report texts) ≤ k * length texts
 unfolding sum
