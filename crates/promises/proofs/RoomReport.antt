@@ -1,5 +1,5 @@
 -- The room report. Leans on the site's laws: the report is what is made in the programs' rooms, and the totals are sums over all texts.
-use Prim.Native.Nat.{ℕ, _+_, _^_, _≤_, _<_}
+use Prim.Native.Nat.{ℕ, _^_}
 use native.Mathlib.Omega.{arith}
 use borrow.Author.Tests.{lt-ltb, le-ltb, ltb-true, ltb-false}
 use mathlib.Core.Path.{_≡_, refl, sym, ap, _∙_, subst}
@@ -8,16 +8,15 @@ use mathlib.Core.Bool.{Bool, true, false, cond, _&&_}
 use mathlib.Core.List.{List, [], _∷_, _++_, map}
 use lib.ListN.{length}
 use lib.Dec.{ltb}
-use Rattle.theory.specs.Expression.{Expression, entries, letters}
+use Rattle.theory.specs.Expression.{Expression}
 use Rattle.theory.specs.Refusal.{Refusal, refusal}
-use Rattle.theory.specs.Automaton.{states, expressions, arcs}
+use Rattle.theory.specs.Automaton.{states}
 use Rattle.theory.specs.Grammar.{Text, Reading, read, refused, written}
-use Rattle.theory.specs.Scan.{scan}
 use Rattle.theory.specs.Report as theory
 use Rattle.theory.specs.Report.{Report, withheld, needs, too-large, reading, of-reading, report, Totals, totals, is-built, is-small}
 use Rattle.theory.specs.Lines.{row, room-report}
 use Rattle.site.specs.Site.{Shown, InRooms, entry-columns, answered, left-in, Made}
-use Rattle.site.specs.Totals.{of-one, with-report, Fits}
+use Rattle.site.specs.Totals.{of-one, with-report}
 use Rattle.site.proofs.Reporting.{due-is, is-due, made-reports}
 use Rattle.site.proofs.Totalling.{sums, totals-are-sums, totals-more, totals-fit as fit}
 use Rattle.promises.specs.Reader.{Written}

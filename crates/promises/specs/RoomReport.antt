@@ -6,7 +6,7 @@ use mathlib.Core.Bool.{cond}
 use mathlib.Core.List.{List, [], _∷_, _++_}
 use lib.ListN.{length}
 use lib.Dec.{eqb, ltb}
-use Rattle.theory.specs.Expression.{Expression, entries, letters, ε, letter, binary, union, shuffle}
+use Rattle.theory.specs.Expression.{Expression, entries, letters, letter, binary, union, shuffle}
 use Rattle.theory.specs.Refusal.{Refusal, refusal}
 use Rattle.theory.specs.Automaton.{states, expressions, arcs}
 use Rattle.theory.specs.Grammar.{Text, written}

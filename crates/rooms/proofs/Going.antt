@@ -9,7 +9,7 @@ use mathlib.Core.Logic.{_⊎_, inl, inr}
 use mathlib.Core.List.{List, [], _∷_, _++_, flatMap, append-nil, append-assoc}
 use lib.ListN.{length, take, length-take, length-append}
 use lib.Seq.{length-take-le, take-all, take-append-seam}
-use Rattle.theory.specs.Limit.{most-lines, longest-text}
+use Rattle.theory.specs.Limit.{most-lines}
 use Rattle.theory.specs.Refusal.{refusal, lines-many}
 use Rattle.theory.specs.Grammar.{Text}
 use Rattle.theory.specs.Report.{Totals, totals, report}
@@ -17,7 +17,7 @@ use Rattle.theory.specs.Lines.{report-line, totals-line, refusal-line, reports,
 use Rattle.theory.proofs.Members.{flatMap-append}
 use Rattle.lines.specs.declared.input.Input.{Input}
 use Rattle.lines.specs.Input.{Inside, untaken, Unbroken, Comes}
-use Rattle.lines.specs.Output.{Put, line-room}
+use Rattle.lines.specs.Output.{Put}
 use Rattle.lines.proofs.Taking.{inside-start}
 use Rattle.lines.specs.Turn.{Left, Due, Lines, no-line, one-more}
 use Rattle.site.specs.Totals.{values, with-report, Fits}
@@ -27,7 +27,7 @@ use Rattle.rooms.specs.declared.answers.Turn.{Turn}
 use Rattle.rooms.specs.declared.Reported.{Reported}
 use Rattle.rooms.specs.declared.Reported.the-variants.{All, ReadFailed, WriteFailed}
 use Rattle.rooms.specs.Turn.{Answers, Turned}
-use Rattle.rooms.specs.Reported.{Ending, no-more, too-many, Ends, Whole, Stopped, Reports}
+use Rattle.rooms.specs.Reported.{Ending, no-more, too-many, Ends, Whole, Reports}
 
 reports-more : (texts : List Text) (t : Text) → reports (texts ++ t ∷ []) ≡ reports texts ++ report-line (report t)
 unfolding reports flatMap

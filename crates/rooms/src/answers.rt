@@ -13,7 +13,7 @@ ghost use Rattle.theory.specs.Limit.{longest-text};
 ghost use Rattle.theory.specs.Grammar.{Text};
 ghost use Rattle.theory.specs.Report.{report};
 ghost use Rattle.theory.specs.Lines.{report-line, totals-line};
-ghost use Rattle.lines.specs.Input.{Inside, Whole};
+ghost use Rattle.lines.specs.Input.{Inside};
 ghost use Rattle.lines.specs.Output.{Put, line-room};
 ghost use Rattle.site.specs.Values.{values as reported};
 ghost use Rattle.site.specs.Totals.{values, with-report, Fits, Told};

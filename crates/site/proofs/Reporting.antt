@@ -20,7 +20,7 @@ use Rattle.theory.specs.Report.{Report, withheld, needs, too-large, reading, of
 use Rattle.theory.proofs.Arcs.{even-arcs-iff}
 use Rattle.theory.proofs.Grammar.{scan-reads, reads-once}
 use Rattle.theory.proofs.Rows.Trees.{entries-positive}
-use Rattle.site.specs.Site.{Shown, InRooms, entry-columns, beside, site-refusal, unless-refused, answered, left-in, Made}
+use Rattle.site.specs.Site.{Shown, InRooms, entry-columns, beside, site-refusal, unless-refused, answered, Made}
 use Rattle.site.specs.Totals.{Told}
 use Rattle.site.proofs.Judging.{built-from}
 

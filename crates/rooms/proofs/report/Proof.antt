@@ -4,8 +4,7 @@ use Prim.Native.Nat.{ℕ, _+_, _-_, _≤_}
 use native.Mathlib.Omega.{arith}
 use mathlib.Core.Path.{_≡_, refl, sym, _∙_, subst}
 use lib.ListN.{length}
-use Rattle.theory.specs.Limit.{most-lines, longest-text}
-use Rattle.lines.proofs.Taking.{inside-start}
+use Rattle.theory.specs.Limit.{most-lines}
 use Rattle.site.specs.Totals.{values}
 use Rattle.rooms.proofs.Going.{Going, going-none, turned-as, fits-still, going-more, put-from, whole-report, read-stopped, write-stopped, reported}
 use Rattle.rooms.proofs.report.Statement.{statement}

@@ -3,7 +3,6 @@ use borrow.Author.Needs.{needs}
 use Prim.Native.Nat.{ℕ}
 use native.Mathlib.Omega.{arith}
 use mathlib.Core.Path.{_≡_, sym, ap, _∙_}
-use Rattle.theory.specs.Report.{Totals}
 use Rattle.site.proofs.Totalling.{adds-nothing, adds-states, adds-all, shifted}
 use Rattle.site.proofs.totals.of_one.Statement.{statement}
 use Rattle.site.proofs.totals.of_one.Tie as tie
