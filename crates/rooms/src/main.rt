@@ -70,7 +70,7 @@ fn report(taken: &mut [u8], column: &mut [u8], block: &mut [u8]) -> Reported
     ensures { λ r. ⌜ Reports (now (taken .entry)) (record { at = 0; end = 0 }) r (now (block .exit)) ⌝ }
 {
     let mut input = Input::start();
-    let mut totals = Totals::none();
+    let mut totals = site::totals::none();
     let mut used = 0;
     let mut lines = 0;
     while lines < limit::LINES {

@@ -12,16 +12,14 @@ pub struct Totals {
     pub few: u64,
 }
 
-impl Totals {
-    pub fn none() -> Totals
-        ensures { λ r. ⌜ values r ≡ record { built = 0; states = 0; powers = 0; few = 0 } ⌝ }
-    {
-        Totals {
-            built: 0,
-            states: 0,
-            powers: 0,
-            few: 0,
-        }
+pub fn none() -> Totals
+    ensures { λ r. ⌜ values r ≡ record { built = 0; states = 0; powers = 0; few = 0 } ⌝ }
+{
+    Totals {
+        built: 0,
+        states: 0,
+        powers: 0,
+        few: 0,
     }
 }
 
@@ -33,35 +31,39 @@ fn of_one(site: Site) -> Totals
     requires { ⌜ Told (reported site) ⌝ }
     ensures { λ r. ⌜ values r ≡ of-one (reported site) ⌝ }
 {
-    let Site::Built {
-        entries: _,
-        letters,
-        states,
-        expressions: _,
-        arcs: _,
-    } = site
-    else {
-        return Totals {
+    match site {
+        Site::Refused {
+            number: _,
+            place: _,
+        } => Totals {
             built: 0,
             states: 0,
             powers: 0,
             few: 0,
-        };
-    };
-    let states = states as u64;
-    if letters > SMALL {
-        return Totals {
-            built: 1,
+        },
+        Site::Built {
+            entries: _,
+            letters,
             states,
-            powers: 0,
-            few: 0,
-        };
-    }
-    Totals {
-        built: 1,
-        states,
-        powers: 1u64 << letters,
-        few: states,
+            expressions: _,
+            arcs: _,
+        } => {
+            let states = states as u64;
+            if letters > SMALL {
+                return Totals {
+                    built: 1,
+                    states,
+                    powers: 0,
+                    few: 0,
+                };
+            }
+            Totals {
+                built: 1,
+                states,
+                powers: 1u64 << letters,
+                few: states,
+            }
+        }
     }
 }
 

@@ -7,10 +7,10 @@ use Rattle.site.proofs.Totalling.{adds-nothing, adds-states, adds-all, 
 use Rattle.site.proofs.totals.of_one.Statement.{statement}
 use Rattle.site.proofs.totals.of_one.Tie as tie
 
-refused : tie.Need-returns
+refused : tie.Need-returns-2
 refused c = sym (adds-nothing (c .enum-told .given .1) (c .before .before .pre))
 
-large : tie.Need-returns-2
+large : tie.Need-returns
 large c = let b = c .before .before in sym (adds-states (b .site .given .1) (omega (arith, c .if1 .taken)))
 
 small : tie.Need-returns-3
@@ -24,4 +24,4 @@ small c =
 
 pub of-one-spec : {M : Type 1} → statement M
 of-one-spec =
-    tie.close (tie.spec (λ c. search needs) (λ c. search needs) refused large (λ c. search needs) small)
+    tie.close (tie.spec (λ c. search needs) (λ c. search needs) large (λ c. search needs) refused small)
