@@ -61,7 +61,7 @@ asked c κs =
     let at = t .before in
     let inv = at .loop .inv in
     let pre = start at .pre in
-    ((inv .0 .inside, inv .2 ∙ pre .0), ((inv .0 .within, omega (arith, inv .3, pre .1)), fits-still (inv .0) (t .loop-test .taken)))
+    ((inv .0 .inside, inv .2 ∙ pre .0), ((inv .0 .within, omega (arith, inv .3, pre .1)), fits-still (inv .0) (omega (arith, t .loop-test .taken))))
 
 loop-again : tie.Need-loop-again Inv-loop μ-loop
 loop-again c =
@@ -71,7 +71,7 @@ loop-again c =
     let inv = t .before .loop .inv in
     let kept = a .answer-next .kept in
     let h = turned-as (next .after .given .1) (a .answer-next .ensures) .turns in
-    (going-more (inv .0) (t .loop-test .taken) (kept .1 .1 .1 .1 .0) (h .1), kept .0 ∙ inv .1, kept .1 .1 .0 ∙ inv .2, kept .1 .1 .1 .1 .0 ∙ inv .3)
+    (going-more (inv .0) (omega (arith, t .loop-test .taken)) (kept .1 .1 .1 .1 .0) (h .1), kept .0 ∙ inv .1, kept .1 .1 .0 ∙ inv .2, kept .1 .1 .1 .1 .0 ∙ inv .3)
 
 last-asked : tie.Need-last-line-requires Inv-loop μ-loop
 last-asked c κs =
