@@ -148,6 +148,9 @@ module _ {taken₀ : List ℕ} {input₀ : Input} {taken : List ℕ} {input : In
         answers = s .is ∙ ap (λ (x : List ℕ). x ++ report-line (report text)) (g .answers) ∙ sym (reports-more (g .texts) text);
       }
 
+  few-texts : length (g .texts) ≤ most-lines
+  few-texts = let n = g .counted in let f = g .few in omega arith
+
   -- No further line: the totals.
   pub whole-report : {left : ℕ} {block′ : List ℕ} {used′ : ℕ} → Left taken input (length block) used left → untaken taken input ≡ []
       → Put (totals-line t) block left block′ used′ → Whole taken₀ input₀ block′ used′
@@ -160,7 +163,9 @@ module _ {taken₀ : List ℕ} {input₀ : Input} {taken : List ℕ} {input : In
         lines = g .taken-lines;
         all = inl none;
         shown = s .shown′;
-        is = s .is ∙ ap₂ (λ (x : List ℕ) (y : Totals). x ++ totals-line y) (g .answers) (g .totalled) ∙ sym (room-few (g .texts) (let n = g .counted in let f = g .few in omega arith));
+        is =
+            s .is ∙ ap₂ (λ (x : List ℕ) (y : Totals). x ++ totals-line y) (g .answers) (g .totalled)
+            ∙ sym (room-few (g .texts) few-texts);
         within = s .within;
       }
 
@@ -193,7 +198,7 @@ module _ {taken₀ : List ℕ} {input₀ : Input} {taken : List ℕ} {input : In
     input,
     record {
       texts = g .texts;
-      few = let n = g .counted in let f = g .few in omega arith;
+      few = few-texts;
       lines = g .taken-lines;
       shown = g .shown ++ take used block;
       is = append-nil (g .shown ++ take used block) ∙ g .answers;
@@ -208,7 +213,7 @@ module _ {taken₀ : List ℕ} {input₀ : Input} {taken : List ℕ} {input : In
     input,
     record {
       texts = g .texts;
-      few = let n = g .counted in let f = g .few in omega arith;
+      few = few-texts;
       lines = g .taken-lines;
       shown = g .shown;
       is = ap (λ (b : List ℕ). g .shown ++ take used b) same ∙ g .answers;

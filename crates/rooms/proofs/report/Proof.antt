@@ -71,7 +71,8 @@ loop-again c =
     let inv = t .before .loop .inv in
     let kept = a .answer-next .kept in
     let h = turned-as (next .after .given .1) (a .answer-next .ensures) .turns in
-    (going-more (inv .0) (omega (arith, t .loop-test .taken)) (kept .1 .1 .1 .1 .0) (h .1), kept .0 ∙ inv .1, kept .1 .1 .0 ∙ inv .2, kept .1 .1 .1 .1 .0 ∙ inv .3)
+    let block = kept .1 .1 .1 .1 .0 in
+    (going-more (inv .0) (omega (arith, t .loop-test .taken)) block (h .1), kept .0 ∙ inv .1, kept .1 .1 .0 ∙ inv .2, block ∙ inv .3)
 
 last-asked : tie.Need-last-line-requires Inv-loop μ-loop
 last-asked c κs =
@@ -114,7 +115,8 @@ at-end c =
 pub report-spec : {M : Type 1} → statement M
 report-spec =
     tie.close
-    (tie.spec Inv-loop μ-loop (λ c κs. search needs) (λ c κs. search needs) loop-holds asked (λ c. search needs) (λ c. omega arith) (λ c. omega arith) loop-again
+    (tie.spec Inv-loop μ-loop (λ c κs. search needs) (λ c κs. search needs) loop-holds
+    asked (λ c. search needs) (λ c. omega arith) (λ c. omega arith) loop-again
     (λ c. search needs) last-asked (λ c. search needs) (λ c. search needs) (λ c. search needs) no-more
     (λ c. search needs) (λ c. search needs) (λ c. search needs) (λ c. search needs) unread
     (λ c. search needs) (λ c. search needs) (λ c. search needs) (λ c. search needs) unwritten
