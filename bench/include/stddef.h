@@ -2,3 +2,7 @@
 #pragma once
 typedef __SIZE_TYPE__ size_t;
 #define NULL ((void *)0)
+typedef struct {
+    _Alignas(long long) long long whole;
+    _Alignas(long double) long double broken;
+} max_align_t;

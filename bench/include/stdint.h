@@ -2,4 +2,5 @@
 typedef __UINT8_TYPE__ uint8_t;
 typedef __UINT16_TYPE__ uint16_t;
 typedef __UINT64_TYPE__ uint64_t;
+#define UINT64_C(number) number##UL
 #define SIZE_MAX __SIZE_MAX__

@@ -1,0 +1,3 @@
+#pragma once
+#include <stdint.h>
+#define PRIu64 __UINT64_FMTu__

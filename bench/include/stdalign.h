@@ -1,0 +1,2 @@
+#pragma once
+#define alignas _Alignas
