@@ -1,6 +1,5 @@
 #include "matcher.h"
 
-#include <stdlib.h>
 #include <string.h>
 
 #include "memory.h"
@@ -53,7 +52,7 @@ struct verdict judge(const struct automaton *automaton, const unsigned char *rec
     }
     struct verdict verdict = place < length ? (struct verdict){ WRONG, place }
                                             : verdict_at_end(automaton, reached);
-    free(reached);
-    free(next);
+    give_back(reached);
+    give_back(next);
     return verdict;
 }

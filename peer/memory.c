@@ -25,6 +25,14 @@ static struct piece *joined(struct piece *piece)
     return piece;
 }
 
+static struct piece *parted(void *memory)
+{
+    struct piece *piece = (struct piece *)memory - 1;
+    piece->before->after = piece->after;
+    piece->after->before = piece->before;
+    return piece;
+}
+
 void *zeroed(size_t bytes)
 {
     return joined(calloc(1, sizeof(struct piece) + bytes)) + 1;
@@ -32,13 +40,13 @@ void *zeroed(size_t bytes)
 
 void *grown(void *memory, size_t bytes)
 {
-    struct piece *piece = NULL;
-    if (memory) {
-        piece = (struct piece *)memory - 1;
-        piece->before->after = piece->after;
-        piece->after->before = piece->before;
-    }
+    struct piece *piece = memory ? parted(memory) : NULL;
     return joined(realloc(piece, sizeof *piece + bytes)) + 1;
+}
+
+void give_back(void *memory)
+{
+    free(parted(memory));
 }
 
 void give_all_back(void)

@@ -8,6 +8,9 @@
 void *zeroed(size_t bytes);
 void *grown(void *memory, size_t bytes);
 
+/* Gives back one piece that zeroed or grown gave. */
+void give_back(void *memory);
+
 /* Gives back all that zeroed and grown gave. */
 void give_all_back(void);
 

@@ -18,7 +18,7 @@ use Rattle.lines.specs.Turn.{Left}
 use Rattle.lines.proofs.WholeLine.{took}
 use Rattle.lines.specs.Output.{Put}
 use Rattle.site.specs.Values.{values}
-use Rattle.site.specs.Totals.{with-report, Told}
+use Rattle.site.specs.Totals.{with-report, HasEntry}
 use Rattle.site.specs.declared.Site.{Site}
 use Rattle.site.specs.declared.Site.the-variants.{Refused, Built}
 use Rattle.site.proofs.Reporting.{reports-long}
@@ -26,10 +26,10 @@ use Rattle.rooms.specs.declared.answers.Standing.{Standing}
 use Rattle.rooms.specs.declared.answers.Turn.the-variants.{Next}
 use Rattle.rooms.specs.Turn.{Answered, Turned}
 
-pub line-refused : {site : Site} {n p : ℕ} → site ≡ Refused n p → Told (values site) → report-line (values site) ≡ refusal-line (refusal n p)
+pub line-refused : {site : Site} {n p : ℕ} → site ≡ Refused n p → HasEntry (values site) → report-line (values site) ≡ refusal-line (refusal n p)
 line-refused {n = n} {p} is told =
     ap (λ (s : Site). report-line (values s)) is
-    ∙ rw (ne-eqb n 0 (λ e. let l = subst (λ (s : Site). Told (values s)) is told e in omega arith), report-line)
+    ∙ rw (ne-eqb n 0 (λ e. let l = subst (λ (s : Site). HasEntry (values s)) is told e in omega arith), report-line)
 
 pub line-built : {site : Site} {n m q x a : ℕ} → site ≡ Built n m q x a → report-line (values site) ≡ row (n ∷ m ∷ q ∷ x ∷ []) a
 line-built is = ap (λ (s : Site). report-line (values s)) is

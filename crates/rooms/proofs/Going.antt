@@ -13,8 +13,8 @@ use Rattle.theory.specs.Limit.{most-lines}
 use Rattle.theory.specs.Refusal.{refusal, lines-many}
 use Rattle.theory.specs.Grammar.{Text}
 use Rattle.theory.specs.Report.{Totals, totals, report}
-use Rattle.theory.specs.Lines.{report-line, totals-line, refusal-line, reports, room-report}
-use Rattle.theory.proofs.Members.{flatMap-append}
+use Rattle.theory.specs.Lines.{report-line, totals-line, refusal-line, reports}
+use Rattle.theory.proofs.RoomReport.{reports-more, few-reports, few-last, many-reports, many-last}
 use Rattle.lines.specs.declared.input.Input.{Input}
 use Rattle.lines.specs.Input.{Inside, untaken, Unbroken, Comes}
 use Rattle.lines.specs.Output.{Put}
@@ -27,24 +27,7 @@ use Rattle.rooms.specs.declared.answers.Turn.{Turn}
 use Rattle.rooms.specs.declared.Reported.{Reported}
 use Rattle.rooms.specs.declared.Reported.the-variants.{All, ReadFailed, WriteFailed}
 use Rattle.rooms.specs.Turn.{Answers, Turned}
-use Rattle.rooms.specs.Reported.{Ending, no-more, too-many, Ends, Whole, Reports}
-
-reports-more : (texts : List Text) (t : Text) → reports (texts ++ t ∷ []) ≡ reports texts ++ report-line (report t)
-unfolding reports flatMap
-reports-more texts t =
-    flatMap-append (λ x. report-line (report x)) texts (t ∷ []) ∙ ap (λ (x : List ℕ). reports texts ++ x) (append-nil (report-line (report t)))
-
-room-few : (texts : List Text) → length texts ≤ most-lines → room-report texts ≡ reports texts ++ totals-line (totals texts)
-unfolding room-report
-room-few texts l = rw (take-all most-lines texts l, le-ltb most-lines (length texts) l, cond)
-
-room-many : (texts : List Text) (t : Text) → length texts ≡ most-lines
-    → room-report (texts ++ t ∷ []) ≡ reports texts ++ refusal-line (refusal lines-many 0)
-unfolding room-report
-room-many texts t e =
-    let n = length-append texts (t ∷ []) in
-    let first : take most-lines (texts ++ t ∷ []) ≡ texts = ap (λ (k : ℕ). take k (texts ++ t ∷ [])) (sym e) ∙ take-append-seam texts (t ∷ []) in
-    rw (first, lt-ltb most-lines (length (texts ++ t ∷ [])) (omega arith), cond)
+use Rattle.rooms.specs.Reported.{Ending, no-more, too-many, Ends, Whole, Unread, Unwritten, Reports}
 
 -- What stands in a block is within it.
 put-inside : {text before after : List ℕ} {used used′ : ℕ} → used ≤ length before → Put text before used after used′ → used′ ≤ length after
@@ -55,30 +38,32 @@ put-inside {text} {before} {after} {used} {used′} l p =
     let e = ap length (p .stands) in
     omega (arith, simp length-append at e)
 
--- What stands after what is left of a block, with what is written of it.
+-- What stands after what is kept of a block, with what is written of it.
 record Stands (shown block : List ℕ) (used : ℕ) (text block′ : List ℕ) (used′ : ℕ) : Type 0 where
   within : used′ ≤ length block′
   shown′ : List ℕ
-  is : shown′ ++ take used′ block′ ≡ (shown ++ take used block) ++ text
+  kept : List ℕ
+  answers : shown′ ++ kept ≡ shown ++ take used block
+  is : take used′ block′ ≡ kept ++ text
 
 stands : {taken : List ℕ} {input : Input} {block : List ℕ} {used left : ℕ} {text block′ : List ℕ} {used′ : ℕ} (shown : List ℕ)
     → Left taken input (length block) used left → Put text block left block′ used′ → Stands shown block used text block′ used′
 stands {block = block} {used} {left} {text} {block′} {used′} shown l p = go (l .whole)
   where
-    inside : used′ ≤ length block′
-    inside = put-inside (let r = l .room in omega arith) p
+    from : (shown′ : List ℕ) → shown′ ++ take left block ≡ shown ++ take used block → Stands shown block used text block′ used′
+    from shown′ e = record {
+      within = put-inside (let r = l .room in omega arith) p;
+      shown′ = shown′;
+      kept = take left block;
+      answers = e;
+      is = p .stands;
+    }
 
     go : (left ≡ used) ⊎ (left ≡ 0) → Stands shown block used text block′ used′
-    go (inl same) = record {
-      within = inside;
-      shown′ = shown;
-      is = ap (λ (x : List ℕ). shown ++ x) (p .stands ∙ ap (λ (n : ℕ). take n block ++ text) same) ∙ sym (append-assoc shown (take used block) text);
-    }
-    go (inr nothing) = record {
-      within = inside;
-      shown′ = shown ++ take used block;
-      is = ap (λ (x : List ℕ). (shown ++ take used block) ++ x) (p .stands ∙ ap (λ (n : ℕ). take n block ++ text) nothing);
-    }
+    go (inl same) = from shown (ap (λ (n : ℕ). shown ++ take n block) same)
+    go (inr nothing) =
+        from (shown ++ take used block)
+        (ap (λ (n : ℕ). (shown ++ take used block) ++ take n block) nothing ∙ append-nil (shown ++ take used block))
 
 -- The same from a block by another name.
 pub put-from : {text before before′ after : List ℕ} {used used′ : ℕ} → before′ ≡ before → Put text before′ used after used′ → Put text before used after used′
@@ -95,25 +80,20 @@ pub record Going (taken₀ : List ℕ) (input₀ : Input) (taken : List ℕ) (in
   pub shown : List ℕ
   pub answers : shown ++ take used block ≡ reports texts
 
-abbrev pub beginning : Input
-beginning = record { at = 0; end = 0 }
-
-pub going-none : {taken block : List ℕ} {input : Input} {t : Totals} → input ≡ beginning → t ≡ record { built = 0; states = 0; powers = 0; few = 0 }
-    → Going taken beginning taken input t block 0 0
+pub going-none : {taken block : List ℕ} {input : Input} {t : Totals} → Inside input taken → t ≡ record { built = 0; states = 0; powers = 0; few = 0 }
+    → Going taken input taken input t block 0 0
 unfolding totals reports
-going-none {taken} {block} {t = t} b e =
-    subst (λ (i : Input). Going taken beginning taken i t block 0 0) (sym b)
-    (record {
-      inside = inside-start refl;
-      within = omega arith;
-      texts = [];
-      counted = refl;
-      few = omega arith;
-      taken-lines = no-line;
-      totalled = e;
-      shown = [];
-      answers = refl;
-    })
+going-none i e = record {
+  inside = i;
+  within = omega arith;
+  texts = [];
+  counted = refl;
+  few = omega arith;
+  taken-lines = no-line;
+  totalled = e;
+  shown = [];
+  answers = refl;
+}
 
 -- What the enums say.
 pub turned-as : {taken : List ℕ} {input : Input} {t : Totals} {block : List ℕ} {used : ℕ} {r r′ : Turn} {taken′ block′ : List ℕ} → r ≡ r′
@@ -145,7 +125,9 @@ module _ {taken₀ : List ℕ} {input₀ : Input} {taken : List ℕ} {input : In
         taken-lines = one-more (g .taken-lines) (a .comes);
         totalled = a .answered .adds ∙ ap (λ (x : Totals). with-report x (report text)) (g .totalled) ∙ sym (totals-more (g .texts) text);
         shown = s .shown′;
-        answers = s .is ∙ ap (λ (x : List ℕ). x ++ report-line (report text)) (g .answers) ∙ sym (reports-more (g .texts) text);
+        answers =
+            ap (λ (x : List ℕ). s .shown′ ++ x) (s .is) ∙ sym (append-assoc (s .shown′) (s .kept) (report-line (report text)))
+            ∙ ap (λ (x : List ℕ). x ++ report-line (report text)) (s .answers ∙ g .answers) ∙ sym (reports-more (g .texts) text);
       }
 
   few-texts : length (g .texts) ≤ most-lines
@@ -163,9 +145,11 @@ module _ {taken₀ : List ℕ} {input₀ : Input} {taken : List ℕ} {input : In
         lines = g .taken-lines;
         all = inl none;
         shown = s .shown′;
-        is =
-            s .is ∙ ap₂ (λ (x : List ℕ) (y : Totals). x ++ totals-line y) (g .answers) (g .totalled)
-            ∙ sym (room-few (g .texts) few-texts);
+        kept = s .kept;
+        answers = s .answers ∙ g .answers ∙ sym (few-reports (g .texts) few-texts);
+        stands =
+            s .is ∙ ap (λ (x : Totals). s .kept ++ totals-line x) (g .totalled)
+            ∙ ap (λ (x : List ℕ). s .kept ++ x) (sym (few-last (g .texts) few-texts));
         within = s .within;
       }
 
@@ -182,7 +166,9 @@ module _ {taken₀ : List ℕ} {input₀ : Input} {taken : List ℕ} {input : In
         lines = one-more (g .taken-lines) c;
         all = inr (let n = g .counted in let k = length-append (g .texts) (text ∷ []) in omega arith);
         shown = s .shown′;
-        is = s .is ∙ ap (λ (x : List ℕ). x ++ refusal-line (refusal lines-many 0)) (g .answers) ∙ sym (room-many (g .texts) text (g .counted ∙ full));
+        kept = s .kept;
+        answers = s .answers ∙ g .answers ∙ sym (many-reports (g .texts) (g .counted ∙ full) (text ∷ []));
+        stands = s .is ∙ ap (λ (x : List ℕ). s .kept ++ x) (sym (many-last (g .texts) (g .counted ∙ full) (text ∷ []) (omega arith)));
         within = s .within;
       }
 
@@ -191,38 +177,23 @@ module _ {taken₀ : List ℕ} {input₀ : Input} {taken : List ℕ} {input : In
   ended full l (no-more e p) = whole-report l e p
   ended full l (too-many text input′ c p) = cut-report full l c p
 
-  -- A read or a write failed: the block is as it was.
-  pub read-stopped : {block′ : List ℕ} → Unbroken (untaken taken input) → Reports taken₀ input₀ ReadFailed block′
-  read-stopped u = (
-    taken,
-    input,
-    record {
-      texts = g .texts;
-      few = few-texts;
-      lines = g .taken-lines;
-      shown = g .shown ++ take used block;
-      is = append-nil (g .shown ++ take used block) ∙ g .answers;
-    },
-    u,
-  )
+  pub unread : Unbroken (untaken taken input) → Unread taken₀ input₀
+  unread u = record { texts = g .texts; after = taken; end = input; lines = g .taken-lines; unbroken = u }
 
-  pub write-stopped : {block′ : List ℕ} → block′ ≡ block → Due taken input (length block) used → Reports taken₀ input₀ WriteFailed block′
-  write-stopped {block′} same d = (
-    used,
-    taken,
-    input,
-    record {
-      texts = g .texts;
-      few = few-texts;
-      lines = g .taken-lines;
-      shown = g .shown;
-      is = ap (λ (b : List ℕ). g .shown ++ take used b) same ∙ g .answers;
-    },
-    subst (λ (b : List ℕ). Due taken input (length b) used) (sym same) d,
-  )
+  pub unwritten : {block′ : List ℕ} → block′ ≡ block → Due taken input (length block) used → Unwritten taken₀ input₀ block′
+  unwritten same d = record {
+    texts = g .texts;
+    after = taken;
+    end = input;
+    lines = g .taken-lines;
+    used = used;
+    shown = g .shown;
+    answers = ap (λ (b : List ℕ). g .shown ++ take used b) same ∙ g .answers;
+    due = subst (λ (b : List ℕ). Due taken input (length b) used) (sym same) d;
+  }
 
   pub reported : (r : Reported) (taken′ block′ : List ℕ) → lines ≡ most-lines → Ends taken input t block used r taken′ block′
       → Reports taken₀ input₀ r block′
   reported (All used′) taken′ block′ full e = ended full (e .1) (e .2)
-  reported ReadFailed taken′ block′ full e = read-stopped (e .0)
-  reported WriteFailed taken′ block′ full e = write-stopped (e .2) (e .0)
+  reported ReadFailed taken′ block′ full e = unread (e .0)
+  reported WriteFailed taken′ block′ full e = unwritten (e .2) (e .0)

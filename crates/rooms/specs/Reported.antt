@@ -8,7 +8,7 @@ use Rattle.theory.specs.Limit.{most-lines}
 use Rattle.theory.specs.Refusal.{refusal, lines-many}
 use Rattle.theory.specs.Grammar.{Text}
 use Rattle.theory.specs.Report.{Totals}
-use Rattle.theory.specs.Lines.{refusal-line, totals-line, reports, room-report}
+use Rattle.theory.specs.Lines.{refusal-line, totals-line, reports, last-line}
 use Rattle.lines.specs.declared.input.Input.{Input}
 use Rattle.lines.specs.Input.{untaken, Unbroken, Comes}
 use Rattle.lines.specs.Output.{Put}
@@ -30,8 +30,8 @@ Ends taken input totals block used ReadFailed taken′ block′ =
     Unbroken (untaken taken input) × Left taken input (length block) used 0 × (block′ ≡ block)
 Ends taken input totals block used WriteFailed taken′ block′ = Due taken input (length block) used × (taken′ ≡ taken) × (block′ ≡ block)
 
--- What was handed on before, and after it what stands in the block, is the report on the lines that were taken one after the other: on all that
--- there were, or on the first 100,001.
+-- The lines that were taken one after the other: till nothing was left in the block, or one more than 100,000. What was handed on before and what is
+-- kept of the answers are those to the first 100,000 at the most, and after what is kept the block holds the last line.
 pub record Whole (taken : List ℕ) (input : Input) (block′ : List ℕ) (used : ℕ) : Type 0 where
   pub texts : List Text
   pub after : List ℕ
@@ -39,21 +39,38 @@ pub record Whole (taken : List ℕ) (input : Input) (block′ : List ℕ) (used 
   pub lines : Lines taken input texts after end
   pub all : (untaken after end ≡ []) ⊎ (length texts ≡ most-lines + 1)
   pub shown : List ℕ
-  pub is : shown ++ take used block′ ≡ room-report texts
+  pub kept : List ℕ
+  pub answers : shown ++ kept ≡ reports (take most-lines texts)
+  pub stands : take used block′ ≡ kept ++ last-line texts
   pub within : used ≤ length block′
 
--- The report stopped after so many lines: what was handed on before, and after it what stands in the block, is what they report.
-pub record Stopped (taken : List ℕ) (input : Input) (block′ : List ℕ) (used : ℕ) (after : List ℕ) (end : Input) : Type 0 where
+-- These bytes end a report.
+pub record Last (bytes : List ℕ) : Type 0 where
   pub texts : List Text
-  pub few : length texts ≤ most-lines
-  pub lines : Lines taken input texts after end
-  pub shown : List ℕ
-  pub is : shown ++ take used block′ ≡ reports texts
+  pub kept : List ℕ
+  pub is : bytes ≡ kept ++ last-line texts
 
--- What `report` owes. A read fails only where a line needs one, and a write only where one is due.
+-- Where a read fails, a line needed one.
+pub record Unread (taken : List ℕ) (input : Input) : Type 0 where
+  pub texts : List Text
+  pub after : List ℕ
+  pub end : Input
+  pub lines : Lines taken input texts after end
+  pub unbroken : Unbroken (untaken after end)
+
+-- Where a write fails, one was due, and what is not written yet stands in the block.
+pub record Unwritten (taken : List ℕ) (input : Input) (block′ : List ℕ) : Type 0 where
+  pub texts : List Text
+  pub after : List ℕ
+  pub end : Input
+  pub lines : Lines taken input texts after end
+  pub used : ℕ
+  pub shown : List ℕ
+  pub answers : shown ++ take used block′ ≡ reports texts
+  pub due : Due after end (length block′) used
+
+-- What `report` owes.
 abbrev pub Reports : List ℕ → Input → Reported → List ℕ → Type 0
 Reports taken input (All used) block′ = Whole taken input block′ used
-Reports taken input ReadFailed block′ =
-    (after : List ℕ) × (end : Input) × Stopped taken input block′ 0 after end × Unbroken (untaken after end)
-Reports taken input WriteFailed block′ =
-    (used : ℕ) × (after : List ℕ) × (end : Input) × Stopped taken input block′ used after end × Due after end (length block′) used
+Reports taken input ReadFailed block′ = Unread taken input
+Reports taken input WriteFailed block′ = Unwritten taken input block′

@@ -16,12 +16,12 @@ ghost use Rattle.theory.specs.Lines.{report-line, totals-line};
 ghost use Rattle.lines.specs.Input.{Inside};
 ghost use Rattle.lines.specs.Output.{Put, line-room};
 ghost use Rattle.site.specs.Values.{values as reported};
-ghost use Rattle.site.specs.Totals.{values, with-report, Fits, Told};
+ghost use Rattle.site.specs.Totals.{values, with-report, Fits, HasEntry};
 ghost use Rattle.rooms.specs.Turn.{Answered, Turned};
 
 // 2026-01: "per line, single-spaced, entries, letters, states, expressions and arcs, or the refusal".
 pub fn line(block: &mut [u8], used: usize, site: Site) -> usize
-    requires { ⌜ Told (reported site) × (used + line-room ≤ length (now block)) ⌝ }
+    requires { ⌜ HasEntry (reported site) × (used + line-room ≤ length (now block)) ⌝ }
     ensures { λ r. ⌜ Put (report-line (reported site)) (now (block .entry)) used (now (block .exit)) r ⌝ }
     ensures { λ r. ⌜ r ≤ used + line-room ⌝ }
 {
@@ -46,7 +46,7 @@ pub fn line(block: &mut [u8], used: usize, site: Site) -> usize
 }
 
 // "a last line of totals"
-pub fn last_line(block: &mut [u8], used: usize, totals: Totals) -> usize
+pub fn totals_line(block: &mut [u8], used: usize, totals: Totals) -> usize
     requires { ⌜ used + line-room ≤ length (now block) ⌝ }
     ensures { λ r. ⌜ Put (totals-line (values totals)) (now (block .entry)) used (now (block .exit)) r ⌝ }
     ensures { λ r. ⌜ r ≤ used + line-room ⌝ }

@@ -15,9 +15,9 @@ ghost use mathlib.Core.Path.{_≡_};
 ghost use lib.ListN.{length};
 ghost use Rattle.theory.specs.Limit.{longest-text};
 ghost use Rattle.lines.specs.Input.{Inside};
-ghost use Rattle.lines.specs.Output.{line-room};
+ghost use Rattle.lines.specs.Output.{line-room, Wrote};
 ghost use Rattle.site.specs.Totals.{values};
-ghost use Rattle.rooms.specs.Reported.{Ends, Reports};
+ghost use Rattle.rooms.specs.Reported.{Ends, Last, Reports};
 
 const TAKEN: usize = 65536;
 
@@ -49,7 +49,7 @@ fn end(
     };
     match line {
         Line::None => Reported::All {
-            used: answers::last_line(block, left, totals),
+            used: answers::totals_line(block, left, totals),
         },
         Line::Failed => Reported::ReadFailed,
         Line::Ended {
@@ -64,12 +64,12 @@ fn end(
     }
 }
 
-// The report on all lines, up to what the block holds of it at the end.
-fn report(taken: &mut [u8], column: &mut [u8], block: &mut [u8]) -> Reported
-    requires { ⌜ (length (now column) ≡ longest-text + 1) × (line-room ≤ length (now block)) ⌝ }
-    ensures { λ r. ⌜ Reports (now (taken .entry)) (record { at = 0; end = 0 }) r (now (block .exit)) ⌝ }
+// The report on all lines from here on, up to what the block holds of it at the end.
+fn report(taken: &mut [u8], start: Input, column: &mut [u8], block: &mut [u8]) -> Reported
+    requires { ⌜ Inside start (now taken) × (length (now column) ≡ longest-text + 1) × (line-room ≤ length (now block)) ⌝ }
+    ensures { λ r. ⌜ Reports (now (taken .entry)) start r (now (block .exit)) ⌝ }
 {
-    let mut input = Input::start();
+    let mut input = start;
     let mut totals = site::totals::none();
     let mut used = 0;
     let mut lines = 0;
@@ -86,7 +86,7 @@ fn report(taken: &mut [u8], column: &mut [u8], block: &mut [u8]) -> Reported
             }
             Turn::End => {
                 return Reported::All {
-                    used: answers::last_line(block, 0, totals),
+                    used: answers::totals_line(block, 0, totals),
                 };
             }
             Turn::ReadFailed => return Reported::ReadFailed,
@@ -96,14 +96,22 @@ fn report(taken: &mut [u8], column: &mut [u8], block: &mut [u8]) -> Reported
     end(taken, input, column, totals, block, used)
 }
 
+// What is handed on last ends a report.
+fn hand_on(bytes: &[u8]) -> Written
+    requires { ⌜ Last (now bytes) ⌝ }
+    ensures { λ r. ⌜ Wrote (length (now (bytes .entry))) r ⌝ }
+{
+    output::write(bytes)
+}
+
 fn main() {
     let mut taken = [0u8; TAKEN];
     // A byte more than a text may have: of a longer line the reader sees that it is longer.
     let mut column = [0u8; limit::TEXT + 1];
     let mut block = [0u8; ANSWERS];
-    match report(&mut taken, &mut column, &mut block) {
+    match report(&mut taken, Input::start(), &mut column, &mut block) {
         Reported::All { used } => {
-            if let Written::Failed = output::write(&block[..used]) {
+            if let Written::Failed = hand_on(&block[..used]) {
                 output::tell_write_failed();
             }
         }

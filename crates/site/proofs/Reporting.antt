@@ -21,7 +21,7 @@ use Rattle.theory.proofs.Arcs.{even-arcs-iff}
 use Rattle.theory.proofs.Grammar.{scan-reads, reads-once}
 use Rattle.theory.proofs.Rows.Trees.{entries-positive}
 use Rattle.site.specs.Site.{Shown, InRooms, entry-columns, beside, site-refusal, unless-refused, answered, Made}
-use Rattle.site.specs.Totals.{Told}
+use Rattle.site.specs.Totals.{HasEntry}
 use Rattle.site.proofs.Judging.{built-from}
 
 -- ---- The reading that is due
@@ -76,9 +76,9 @@ module _ {s : Shown} (rooms : InRooms s) where
   unfolding report
   made-reports h = h .answers ∙ answered-is (h .reading) ∙ ap of-reading (due-is (h .due))
 
-pub made-told : {text : Text} {s : Shown} {answer : Report} {s′ : Shown} → Made text s answer s′ → Told answer
+pub has-entry : {text : Text} {s : Shown} {answer : Report} {s′ : Shown} → Made text s answer s′ → HasEntry answer
 unfolding needs
-made-told h z =
+has-entry h z =
     let b = built-from h z in
     let n = ap (λ (a : Report). a .entries) (b .counts) in
     let p = entries-positive (b .read-as .expression) in

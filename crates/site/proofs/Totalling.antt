@@ -17,18 +17,18 @@ use Rattle.theory.specs.Rooms
 use Rattle.theory.specs.Report.{Report, Totals, withheld, needs, too-large, reading, of-reading, report, those, sum, is-built, is-small, totals}
 use Rattle.theory.proofs.Tests.{and-right, or-left, or-right}
 use Rattle.site.specs.Values.{values}
-use Rattle.site.specs.Totals.{of-one, plus, with-report, Fits, Told}
+use Rattle.site.specs.Totals.{of-one, plus, with-report, Fits, HasEntry}
 use Rattle.site.specs.declared.Site.{Site}
 use Rattle.site.specs.declared.Site.the-variants.{Refused, Built}
 
 -- ---- What one text adds
 
 module _ {site : Site} where
-  pub adds-nothing : {n p : ℕ} → site ≡ Refused n p → Told (values site)
+  pub adds-nothing : {n p : ℕ} → site ≡ Refused n p → HasEntry (values site)
       → of-one (values site) ≡ record { built = 0; states = 0; powers = 0; few = 0 }
   adds-nothing {n} {p} is told =
       ap (λ (s : Site). of-one (values s)) is
-      ∙ rw (ne-eqb n 0 (λ e. let l = subst (λ (s : Site). Told (values s)) is told e in omega arith), of-one)
+      ∙ rw (ne-eqb n 0 (λ e. let l = subst (λ (s : Site). HasEntry (values s)) is told e in omega arith), of-one)
 
   module _ {n m q x a : ℕ} (is : site ≡ Built n m q x a) where
     pub adds-states : 10 < m → of-one (values site) ≡ record { built = 1; states = q; powers = 0; few = 0 }

@@ -29,6 +29,6 @@ pub record Fits (t : Totals) : Type 0 where
   pub powers : t .powers < 2 ^ 64
   pub few : t .few < 2 ^ 64
 
--- A text that is built has an entry.
-abbrev pub Told : Report → Type 0
-Told r = r .refusal .number ≡ 0 → 0 < r .entries
+-- Where nothing is refused, there is an entry. It keeps out a refusal with number 0.
+abbrev pub HasEntry : Report → Type 0
+HasEntry r = r .refusal .number ≡ 0 → 0 < r .entries

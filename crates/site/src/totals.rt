@@ -3,7 +3,7 @@
 use crate::Site;
 ghost use mathlib.Core.Path.{_≡_};
 ghost use Rattle.site.specs.Values.{values as reported};
-ghost use Rattle.site.specs.Totals.{values, of-one, with-report, Fits, Told};
+ghost use Rattle.site.specs.Totals.{values, of-one, with-report, Fits, HasEntry};
 
 pub struct Totals {
     pub built: u64,
@@ -28,7 +28,7 @@ const SMALL: usize = 10;
 
 // What one text adds.
 fn of_one(site: Site) -> Totals
-    requires { ⌜ Told (reported site) ⌝ }
+    requires { ⌜ HasEntry (reported site) ⌝ }
     ensures { λ r. ⌜ values r ≡ of-one (reported site) ⌝ }
 {
     match site {
@@ -69,7 +69,7 @@ fn of_one(site: Site) -> Totals
 
 // The totals with what one more text came to.
 pub fn with(totals: Totals, site: Site) -> Totals
-    requires { ⌜ Told (reported site) × Fits (with-report (values totals) (reported site)) ⌝ }
+    requires { ⌜ HasEntry (reported site) × Fits (with-report (values totals) (reported site)) ⌝ }
     ensures { λ r. ⌜ values r ≡ with-report (values totals) (reported site) ⌝ }
 {
     let one = of_one(site);

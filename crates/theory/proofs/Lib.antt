@@ -38,3 +38,4 @@ pub mod Needs
 pub mod Accepts
 pub mod MatcherRefusal
 pub mod Verdicts
+pub mod RoomReport

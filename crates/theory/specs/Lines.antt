@@ -100,8 +100,10 @@ unfolding flatMap report decimal
 reports texts = flatMap (λ t. report-line (report t)) texts
 
 -- "22, more than 100,000 lines, printed after the first 100,000 in place of the totals"
+unfoldable pub last-line : List Text → List ℕ
+unfolding totals decimal
+last-line texts = cond (ltb most-lines (length texts)) (refusal-line (refusal lines-many 0)) (totals-line (totals texts))
+
 unfoldable pub room-report : List Text → List ℕ
-unfolding reports totals decimal
-room-report texts =
-    reports (take most-lines texts)
-    ++ cond (ltb most-lines (length texts)) (refusal-line (refusal lines-many 0)) (totals-line (totals texts))
+unfolding reports last-line
+room-report texts = reports (take most-lines texts) ++ last-line texts

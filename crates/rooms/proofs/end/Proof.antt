@@ -55,7 +55,7 @@ none c =
     let p = c .before .before in
     let e = p .before .before in
     let k = asks (e .before .before .before) in
-    (_, k .0, no-more (took (e .enum-told2 .given .1) (k .1) .holds) (p .last-line .ensures .0))
+    (_, k .0, no-more (took (e .enum-told2 .given .1) (k .1) .holds) (p .totals-line .ensures .0))
 
 failed : tie.Need-returns-3
 failed c =

@@ -6,13 +6,13 @@ use mathlib.Core.Path.{_≡_, refl, sym, _∙_, subst}
 use lib.ListN.{length}
 use Rattle.theory.specs.Limit.{most-lines}
 use Rattle.site.specs.Totals.{values}
-use Rattle.rooms.proofs.Going.{Going, going-none, turned-as, fits-still, going-more, put-from, whole-report, read-stopped, write-stopped, reported}
+use Rattle.rooms.proofs.Going.{Going, going-none, turned-as, fits-still, going-more, put-from, whole-report, unread as stopped-unread, unwritten as stopped-unwritten, reported}
 use Rattle.rooms.proofs.report.Statement.{statement}
 use Rattle.rooms.proofs.report.Tie as tie
 
 abbrev Inv-loop : tie.InvT-loop
 Inv-loop taken₀ column₀ block₀ input₀ totals₀ used₀ lines₀ taken column block input totals used lines =
-    Going taken₀ (record { at = 0; end = 0 }) taken input (values totals) block used lines
+    Going taken₀ input₀ taken input (values totals) block used lines
     × (length taken ≡ length taken₀) × (length column ≡ length column₀) × (length block ≡ length block₀)
 
 abbrev μ-loop : tie.MeasureT-loop
@@ -74,7 +74,7 @@ loop-again c =
     let block = kept .1 .1 .1 .1 .0 in
     (going-more (inv .0) (omega (arith, t .loop-test .taken)) block (h .1), kept .0 ∙ inv .1, kept .1 .1 .0 ∙ inv .2, block ∙ inv .3)
 
-last-asked : tie.Need-last-line-requires Inv-loop μ-loop
+last-asked : tie.Need-totals-line-requires Inv-loop μ-loop
 last-asked c κs =
     let a = called (c .before .before .before) in
     let at = turn a .before in
@@ -86,18 +86,18 @@ no-more c =
     let e = p .before .before in
     let a = called (e .before .before) in
     let h = turned-as (e .enum-told .given .1) (a .answer-next .ensures) .turns in
-    whole-report (turn a .before .loop .inv .0) (h .1) (h .0) (put-from (h .2) (p .last-line .ensures .0))
+    whole-report (turn a .before .loop .inv .0) (h .1) (h .0) (put-from (h .2) (p .totals-line .ensures .0))
 
 unread : tie.Need-returns-2 Inv-loop μ-loop
 unread c =
     let a = called (c .before .before) in
-    read-stopped (turn a .before .loop .inv .0) (turned-as (c .enum-told2 .given .1) (a .answer-next .ensures) .turns .0)
+    stopped-unread (turn a .before .loop .inv .0) (turned-as (c .enum-told2 .given .1) (a .answer-next .ensures) .turns .0)
 
 unwritten : tie.Need-returns-3 Inv-loop μ-loop
 unwritten c =
     let a = called (c .before .before) in
     let h = turned-as (c .enum-told3 .given .1) (a .answer-next .ensures) .turns in
-    write-stopped (turn a .before .loop .inv .0) (h .2) (h .0)
+    stopped-unwritten (turn a .before .loop .inv .0) (h .2) (h .0)
 
 end-asked : tie.Need-end-requires Inv-loop μ-loop
 end-asked c κs =

@@ -4,8 +4,8 @@ use mathlib.Core.Path.{_≡_, refl, sym, ap, _∙_, subst}
 use Rattle.theory.specs.Report.{Report, report}
 use Rattle.theory.specs.Lines.{report-line}
 use Rattle.site.specs.Values.{values as reported}
-use Rattle.site.specs.Totals.{values, with-report, Fits, Told}
-use Rattle.site.proofs.Reporting.{made-reports, made-told}
+use Rattle.site.specs.Totals.{values, with-report, Fits, HasEntry}
+use Rattle.site.proofs.Reporting.{made-reports, has-entry}
 use Rattle.rooms.proofs.Answering.{put-as}
 use Rattle.rooms.proofs.answers.answer.Statement.{statement}
 use Rattle.rooms.proofs.answers.answer.Tie as tie
@@ -34,8 +34,8 @@ said c = c .before .before
 reports : (c : tie.After-automaton) → reported (c .automaton .result) ≡ report (start c .args .text .now)
 reports c = made-reports (record { states = refl; from = refl; letter = refl; to = refl }) (c .automaton .ensures)
 
-told : (c : tie.After-automaton) → Told (reported (c .automaton .result))
-told c = made-told (c .automaton .ensures)
+told : (c : tie.After-automaton) → HasEntry (reported (c .automaton .result))
+told c = has-entry (c .automaton .ensures)
 
 -- ---- The needs
 
