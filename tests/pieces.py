@@ -4,6 +4,7 @@ import itertools
 
 from expressions import MOST_BYTES, few_entries, good_text, many_entries, some_entries
 from recordings import input_to_cut
+from sites import file_to_cut
 
 MOST_PIECES = 120
 SIZES = [1, 2, 7, 100, 5000]
@@ -56,7 +57,7 @@ def long_line(rng, given):
     return [start + first, start + rng.randint(first, length)]
 
 
-# The places, and how many bytes of records make some 60 pieces of one size, or some 60 lines.
+# The places, and how many bytes of lines make some 60 pieces of one size, or some 60 records.
 WAYS = {f'of {size} byte' + 's' * (size > 1): (by(size), min(60 * size, 40000)) for size in SIZES}
 WAYS['of mixed sizes'] = mixed, 20000
 WAYS.update({way: (places, 400) for way, places in {
@@ -84,3 +85,8 @@ def listing_pieces(rng, way):
         text = text.ljust(rng.randint(5001, 12000), b'*')
     after = [b'\n(a'] if 'newlines' in way or way == LAST_LINE else [b'', b'\n', b'\nab\n']
     return cut(rng, text + rng.choice(after), way)
+
+
+def rooms_pieces(rng, way):
+    ending = b'' if way == LAST_LINE else rng.choice([b'', b'\n', b'\n\n'])
+    return cut(rng, file_to_cut(rng, WAYS[way][1], way == LONG_LINE, ending), way)

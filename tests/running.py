@@ -5,6 +5,8 @@ import subprocess
 import termios
 import time
 
+from sites import misreported
+
 PIPE_HOLDS = 60000
 RUN_SECONDS = 60           # a program that takes longer has given no answer
 MOMENT = 0.002             # between two looks at whether a piece was read
@@ -32,14 +34,14 @@ def lent(given):
     return file
 
 
-def fault(program, status, given, file):
-    """What a program did that it must not: end with another status than 0, or as listing ("nothing after it read")
-    read past its line."""
+def fault(program, status, given, file, printed):
+    """What a program did that it must not: end with another status than 0, as listing ("nothing after it read") read past
+    its line, or as rooms print an answer that is wrong by itself."""
     if status:
         return f'ended with status {status}'
     if program == 'listing' and len(given) <= PIPE_HOLDS and len(file.read()) < len(given.partition(b'\n')[2]):
         return 'read past its line'
-    return ''
+    return misreported(given, printed) if program == 'rooms' else ''
 
 
 def hand_over(running, file, writing, pieces):
@@ -70,7 +72,8 @@ def answer(program, path, pieces):
             running.kill()
             return b'', f'no answer in {RUN_SECONDS} seconds'
         out.seek(0)
-        return out.read(), fault(program, status, given, file)
+        printed = out.read()
+        return printed, fault(program, status, given, file, printed)
 
 
 def failed(path, stdin, stdout):

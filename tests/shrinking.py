@@ -43,8 +43,8 @@ def shrunk(given, differs, ways):
         way = ways.pop(0)
         ways.append(way)
         idle += 1
-        tried = (x for x in way(given) if time.monotonic() < end and differs(x))
-        for shorter in itertools.islice(tried, 1):
+        tried = itertools.takewhile(lambda _: time.monotonic() < end, way(given))
+        for shorter in itertools.islice(filter(differs, tried), 1):
             given = shorter
             idle = 0
     return given
