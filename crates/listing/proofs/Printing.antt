@@ -1,14 +1,14 @@
 -- From what the site made to the answer of the listing program. Leans on `Listed`, and on the site's laws of what it refuses and builds.
-use Prim.Native.Nat.{ℕ, _*_, _≤_, _<_}
+use Prim.Native.Nat.{ℕ, _≤_}
 use native.Mathlib.Omega.{arith}
-use mathlib.Core.Path.{_≡_, refl, sym, ap, ap₂, _∙_, subst}
+use mathlib.Core.Path.{_≡_, refl, sym, ap, _∙_, subst}
 use mathlib.Core.List.{List, _++_}
 use lib.ListN.{length, getD, take}
 use Rattle.theory.specs.Limit.{most-states}
 use Rattle.theory.specs.Refusal.{Refusal}
 use Rattle.theory.specs.Automaton.{states, arcs}
 use Rattle.theory.specs.Arcs.{ArcColumns}
-use Rattle.theory.specs.Grammar.{Text, Reading, read}
+use Rattle.theory.specs.Grammar.{Text, Reading}
 use Rattle.theory.specs.Lines.{listing, refusal-line}
 use Rattle.theory.proofs.Filled.{filled-well-formed}
 use Rattle.lines.specs.declared.output.Written.{Written}

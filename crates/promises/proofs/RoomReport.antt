@@ -2,11 +2,10 @@
 use Prim.Native.Nat.{ℕ, _^_}
 use native.Mathlib.Omega.{arith}
 use borrow.Author.Tests.{lt-ltb, le-ltb, ltb-true, ltb-false}
-use mathlib.Core.Path.{_≡_, refl, sym, ap, _∙_, subst}
+use mathlib.Core.Path.{_≡_, refl, sym, ap, ap₂, _∙_, subst}
 use mathlib.Core.Logic.{_↔_}
 use mathlib.Core.Bool.{Bool, true, false, cond, _&&_}
 use mathlib.Core.List.{List, [], _∷_, _++_, map}
-use lib.ListN.{length}
 use lib.Dec.{ltb}
 use Rattle.theory.specs.Expression.{Expression}
 use Rattle.theory.specs.Refusal.{Refusal, refusal}
@@ -14,14 +13,15 @@ use Rattle.theory.specs.Automaton.{states}
 use Rattle.theory.specs.Grammar.{Text, Reading, read, refused, written}
 use Rattle.theory.specs.Report as theory
 use Rattle.theory.specs.Report.{Report, withheld, needs, too-large, reading, of-reading, report, Totals, totals, is-built, is-small}
-use Rattle.theory.specs.Lines.{row, room-report}
+use Rattle.theory.specs.Lines.{row, reports, room-report}
+use Rattle.theory.proofs.RoomReport.{reports-more, few-reports, few-last, many-reports, many-last}
 use Rattle.site.specs.Site.{Shown, InRooms, entry-columns, answered, left-in, Made}
 use Rattle.site.specs.Totals.{of-one, with-report}
 use Rattle.site.proofs.Reporting.{due-is, is-due, made-reports}
 use Rattle.site.proofs.Totalling.{sums, totals-are-sums, totals-more, totals-fit as fit}
 use Rattle.promises.specs.Reader.{Written}
 use Rattle.promises.specs.Site.{SiteCause}
-use Rattle.promises.specs.RoomReport.{LinesReport, sum, if-built, if-small, FourSums, Run, none, one-more, TotalsOfTheList, TotalsFit, joined, Sample}
+use Rattle.promises.specs.RoomReport.{LinesReport, sum, if-built, if-small, FourSums, Run, none, one-more, TotalsOfTheList, TotalsFit, ReportPrints, joined, Sample}
 use Rattle.promises.proofs.Causes.Reader.{written-due}
 use Rattle.promises.proofs.Site.{site-meets}
 
@@ -112,8 +112,19 @@ totals-fit = record {
   few = λ {texts} s l. omega (arith, s .few, four-sums texts .few, fit texts l .few);
 }
 
+-- ---- The whole report
+
+pub report-prints : ReportPrints
+unfolding reports room-report row
+report-prints = record {
+  no-line = refl;
+  one-more-line = reports-more;
+  totals-last = λ texts l. ap₂ (λ (x y : List ℕ). x ++ y) (few-reports texts l) (few-last texts l);
+  refused-last = λ texts more l some. ap₂ (λ (x y : List ℕ). x ++ y) (many-reports texts l more) (many-last texts l more some);
+}
+
 -- ---- A report
 
 pub sample : Sample
 unfolding room-report row written joined
-sample = record { report = refl }
+sample = record { none = refl; report = refl }

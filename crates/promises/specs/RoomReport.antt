@@ -10,8 +10,8 @@ use Rattle.theory.specs.Expression.{Expression, entries, letters, letter, binar
 use Rattle.theory.specs.Refusal.{Refusal, refusal}
 use Rattle.theory.specs.Automaton.{states, expressions, arcs}
 use Rattle.theory.specs.Grammar.{Text, written}
-use Rattle.theory.specs.Report.{Report, report, Totals, totals}
-use Rattle.theory.specs.Lines.{room-report}
+use Rattle.theory.specs.Report.{report, Totals, totals}
+use Rattle.theory.specs.Lines.{report-line, totals-line, reports, room-report}
 use Rattle.site.specs.Site.{Shown, InRooms, entry-columns, Made}
 use Rattle.site.specs.Values.{values}
 use Rattle.site.specs.Totals.{with-report}
@@ -82,6 +82,18 @@ pub record TotalsFit : Type 0 where
   pub powers : {texts : List Text} {t : Totals} → FourSums texts t → length texts ≤ 100000 → t .powers < 18446744073709551616
   pub few : {texts : List Text} {t : Totals} → FourSums texts t → length texts ≤ 100000 → t .few < 18446744073709551616
 
+-- ---- The whole report
+
+pub record ReportPrints : Type 0 where
+  -- "prints per line"
+  pub no-line : reports [] ≡ []
+  pub one-more-line : (texts : List Text) (t : Text) → reports (texts ++ t ∷ []) ≡ reports texts ++ report-line (report t)
+  -- "and a last line of totals"
+  pub totals-last : (texts : List Text) → length texts ≤ 100000 → room-report texts ≡ reports texts ++ totals-line (totals texts)
+  -- "22, more than 100,000 lines, printed after the first 100,000 in place of the totals": refused 22 0
+  pub refused-last : (texts more : List Text) → length texts ≡ 100000 → 0 < length more
+      → room-report (texts ++ more) ≡ reports texts ++ 114 ∷ 101 ∷ 102 ∷ 117 ∷ 115 ∷ 101 ∷ 100 ∷ 32 ∷ 50 ∷ 50 ∷ 32 ∷ 48 ∷ 10 ∷ []
+
 -- ---- A report
 
 -- a and as many further a, joined by +.
@@ -91,6 +103,8 @@ joined (suc n) = binary union (joined n) (letter 97)
 
 -- `(a&b)`, an empty line, ten letters and eleven: the totals have three lines built, and in the last two of them two.
 pub record Sample : Type 0 where
+  -- A file without a line: 0 0 0 0
+  pub none : room-report [] ≡ 48 ∷ 32 ∷ 48 ∷ 32 ∷ 48 ∷ 32 ∷ 48 ∷ 10 ∷ []
   -- 3 2 4 4 4, refused 13 0, 19 10 2 11 1, 21 11 2 12 1, 3 8 1028 6
   pub report : room-report (written (binary shuffle (letter 97) (letter 98)) ∷ [] ∷ written (joined 9) ∷ written (joined 10) ∷ [])
       ≡ 51 ∷ 32 ∷ 50 ∷ 32 ∷ 52 ∷ 32 ∷ 52 ∷ 32 ∷ 52 ∷ 10

@@ -1,5 +1,5 @@
 -- A turn of the records program: the line that was taken and its answer. Where there is no line, nothing is left to be written.
-use Prim.Native.Nat.{ℕ, _+_, _≤_}
+use Prim.Native.Nat.{ℕ, _≤_}
 use native.Mathlib.Omega.{arith}
 use mathlib.Core.Path.{_≡_, refl, ap, subst}
 use mathlib.Core.List.{List, []}

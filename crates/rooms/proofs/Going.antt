@@ -2,13 +2,11 @@
 -- block.
 use Prim.Native.Nat.{ℕ, _+_, _≤_, _<_}
 use native.Mathlib.Omega.{arith}
-use borrow.Author.Tests.{lt-ltb, le-ltb}
-use mathlib.Core.Path.{_≡_, refl, sym, ap, ap₂, _∙_, subst}
-use mathlib.Core.Bool.{cond}
+use mathlib.Core.Path.{_≡_, refl, sym, ap, _∙_, subst}
 use mathlib.Core.Logic.{_⊎_, inl, inr}
-use mathlib.Core.List.{List, [], _∷_, _++_, flatMap, append-nil, append-assoc}
+use mathlib.Core.List.{List, [], _∷_, _++_, append-nil, append-assoc}
 use lib.ListN.{length, take, length-take, length-append}
-use lib.Seq.{length-take-le, take-all, take-append-seam}
+use lib.Seq.{length-take-le}
 use Rattle.theory.specs.Limit.{most-lines}
 use Rattle.theory.specs.Refusal.{refusal, lines-many}
 use Rattle.theory.specs.Grammar.{Text}
@@ -18,7 +16,6 @@ use Rattle.theory.proofs.RoomReport.{reports-more, few-reports, few-last, many-
 use Rattle.lines.specs.declared.input.Input.{Input}
 use Rattle.lines.specs.Input.{Inside, untaken, Unbroken, Comes}
 use Rattle.lines.specs.Output.{Put}
-use Rattle.lines.proofs.Taking.{inside-start}
 use Rattle.lines.specs.Turn.{Left, Due, Lines, no-line, one-more}
 use Rattle.site.specs.Totals.{values, with-report, Fits}
 use Rattle.site.proofs.Totalling.{totals-more, totals-fit}

@@ -1,6 +1,6 @@
 -- What the builder refuses of an expression that was read, in the columns of a site, and what holds where nothing is refused. Leans on
 -- `rows-refused-never`: a text that is read is never refused with 1 to 8.
-use Prim.Native.Nat.{ℕ, _≤_}
+use Prim.Native.Nat.{_≤_}
 use native.Mathlib.Omega.{arith, by-contra}
 use mathlib.Core.Path.{_≡_, refl, sym, ap, _∙_}
 use mathlib.Core.Bool.{Bool, true, false, cond, _&&_, false≢true}

@@ -1,12 +1,10 @@
 -- The automaton that a site holds is that of the expression that its text writes, and a record judged over it is accepted exactly when it is in
 -- that expression's language. Leans on `Handing` of the theory, and on `unambiguous`: no text is written for two expressions.
-use Prim.Native.Nat.{ℕ, _≤_}
+use Prim.Native.Nat.{_≤_}
 use native.Mathlib.Decide.{ℕ-discrete}
 use native.Mathlib.Omega.{arith}
 use mathlib.Core.Path.{_≡_, refl, sym, ap, _∙_, subst}
-use mathlib.Core.Logic.{_↔_}
 use lib.ListN.{length}
-use borrow.Author.Tests.{eq-eqb, ne-eqb}
 use Rattle.theory.specs.Expression.{Expression}
 use Rattle.theory.specs.Limit.{most-states}
 use Rattle.theory.specs.Refusal.{Refusal}

@@ -1,12 +1,10 @@
 -- From the reader's promise and the builder's to that of a site. Leans on `Expressed`, by which a text that is read is read as the expression
 -- that it writes, and on `Fitting`.
-use Prim.Native.Nat.{ℕ, _≤_, _<_}
+use Prim.Native.Nat.{ℕ, _≤_}
 use native.Mathlib.Omega.{arith}
-use mathlib.Core.Path.{_≡_, refl, sym, ap, ap₂, _∙_, subst}
-use mathlib.Core.Logic.{_⊎_}
+use mathlib.Core.Path.{_≡_, refl, sym, ap, _∙_, subst}
 use mathlib.Core.List.{List, map}
-use lib.ListN.{length, getD, take, length-map}
-use lib.Dec.{eqb}
+use lib.ListN.{length, take, length-map}
 use borrow.Author.Tests.{eq-eqb, ne-eqb}
 use native.Mathlib.Decide.{ℕ-discrete}
 use Rattle.theory.specs.Kind
@@ -15,10 +13,10 @@ use Rattle.theory.specs.Refusal.{Refusal, refusal, success}
 use Rattle.theory.specs.Column.{filled}
 use Rattle.theory.specs.Automaton.{states, accepting, expressions, arcs}
 use Rattle.theory.specs.Arcs.{filled-arcs}
-use Rattle.theory.specs.Table.{Table, Row, row, columns, tree}
+use Rattle.theory.specs.Table.{Table, Row, columns}
 use Rattle.theory.specs.Grammar.{Text, Reading, read, refused, rows}
 use Rattle.theory.specs.Read.{Read, Entered, entered, filled-part, column-of, Due}
-use Rattle.theory.specs.Build.{lent, Counts, Built, build-refusal, counts}
+use Rattle.theory.specs.Build.{lent, Counts, Built, build-refusal}
 use Rattle.theory.proofs.Answers.{counts-built, counts-refused}
 use Rattle.theory.proofs.Column.{filled-length}
 use Rattle.theory.proofs.Expressed.{Expressed, expressed, filled-rows}

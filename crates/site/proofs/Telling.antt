@@ -1,9 +1,7 @@
 -- From a text and a record to a verdict: what the site made, and what the matcher answered over it. Leans on `Judging`.
-use Prim.Native.Nat.{ℕ, _<_}
 use native.Mathlib.Decide.{ℕ-discrete}
 use native.Mathlib.Omega.{arith}
 use mathlib.Core.Path.{_≡_, refl, sym, ap, _∙_, subst}
-use lib.ListN.{length}
 use Rattle.theory.specs.Expression.{Expression}
 use Rattle.theory.specs.Refusal.{Refusal}
 use Rattle.theory.specs.Language.{Word}
@@ -23,7 +21,7 @@ use Rattle.site.specs.declared.Told.{Told}
 use Rattle.site.specs.Values.{spoken, kept-by, Settled}
 use Rattle.theory.specs.Report.{Report, withheld, needs}
 use Rattle.site.specs.Site.{Shown, site-refusal, answered, blank, holding, left-in, Made}
-use Rattle.site.specs.Sited.{Judges, told, JudgesText}
+use Rattle.site.specs.Sited.{told, JudgesText}
 use Rattle.site.proofs.Making.{unless-none, unless-some, answered-built, answered-refused, left-refused}
 use Rattle.site.proofs.Judging.{built-from, handed-is, sited, of-text, judged-over}
 

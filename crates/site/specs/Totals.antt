@@ -1,5 +1,5 @@
 -- 2026-01: what one report adds to the totals of those before it, and when 64 bits hold them.
-use Prim.Native.Nat.{ℕ, _+_, _^_, _<_}
+use Prim.Native.Nat.{_+_, _^_, _<_}
 use mathlib.Core.Path.{_≡_}
 use mathlib.Core.Bool.{cond, _&&_}
 use Rattle.theory.specs.Report.{Report, Totals, is-built, is-small}

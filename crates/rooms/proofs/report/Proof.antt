@@ -1,8 +1,8 @@
 -- `report` answers line after line. The measure is how many may still come.
 use borrow.Author.Needs.{needs}
-use Prim.Native.Nat.{ℕ, _+_, _-_, _≤_}
+use Prim.Native.Nat.{_-_}
 use native.Mathlib.Omega.{arith}
-use mathlib.Core.Path.{_≡_, refl, sym, _∙_, subst}
+use mathlib.Core.Path.{_≡_, refl, _∙_}
 use lib.ListN.{length}
 use Rattle.theory.specs.Limit.{most-lines}
 use Rattle.site.specs.Totals.{values}
@@ -21,7 +21,7 @@ abbrev μ-loop : tie.MeasureT-loop
 -- ---- The places: the entry, the loop's head, the call of `answer_next`
 
 abbrev known : tie.At-loop Inv-loop μ-loop → tie.After-slice-known3 Inv-loop μ-loop
-known c = c .before .before .before
+known c = c .before .before
 
 abbrev start : tie.At-loop Inv-loop μ-loop → tie.Start Inv-loop μ-loop
 start c = known c .before .before .before
@@ -53,7 +53,7 @@ closing c = last-lent c .before
 -- ---- The needs
 
 loop-holds : tie.Need-loop-holds Inv-loop μ-loop
-loop-holds c = (going-none (c .before .start .ensures) (c .none .ensures), refl, refl, refl)
+loop-holds c = let s = c .before .before .before .before in (going-none (s .pre .0) (c .none .ensures), refl, refl, refl)
 
 asked : tie.Need-answer-next-requires Inv-loop μ-loop
 asked c κs =
@@ -61,7 +61,7 @@ asked c κs =
     let at = t .before in
     let inv = at .loop .inv in
     let pre = start at .pre in
-    ((inv .0 .inside, inv .2 ∙ pre .0), ((inv .0 .within, omega (arith, inv .3, pre .1)), fits-still (inv .0) (omega (arith, t .loop-test .taken))))
+    ((inv .0 .inside, inv .2 ∙ pre .1), ((inv .0 .within, omega (arith, inv .3, pre .2)), fits-still (inv .0) (omega (arith, t .loop-test .taken))))
 
 loop-again : tie.Need-loop-again Inv-loop μ-loop
 loop-again c =
@@ -78,7 +78,7 @@ last-asked : tie.Need-totals-line-requires Inv-loop μ-loop
 last-asked c κs =
     let a = called (c .before .before .before) in
     let at = turn a .before in
-    omega (arith, a .answer-next .kept .1 .1 .1 .1 .0, at .loop .inv .3, start at .pre .1)
+    omega (arith, a .answer-next .kept .1 .1 .1 .1 .0, at .loop .inv .3, start at .pre .2)
 
 no-more : tie.Need-returns Inv-loop μ-loop
 no-more c =
@@ -104,7 +104,7 @@ end-asked c κs =
     let at = c .before .before .before .before in
     let inv = at .loop .inv in
     let pre = start at .pre in
-    ((inv .0 .inside, inv .2 ∙ pre .0), (inv .0 .within, omega (arith, inv .3, pre .1)))
+    ((inv .0 .inside, inv .2 ∙ pre .1), (inv .0 .within, omega (arith, inv .3, pre .2)))
 
 at-end : tie.Need-returns-4 Inv-loop μ-loop
 at-end c =
@@ -115,7 +115,7 @@ at-end c =
 pub report-spec : {M : Type 1} → statement M
 report-spec =
     tie.close
-    (tie.spec Inv-loop μ-loop (λ c κs. search needs) (λ c κs. search needs) loop-holds
+    (tie.spec Inv-loop μ-loop (λ c κs. search needs) loop-holds
     asked (λ c. search needs) (λ c. omega arith) (λ c. omega arith) loop-again
     (λ c. search needs) last-asked (λ c. search needs) (λ c. search needs) (λ c. search needs) no-more
     (λ c. search needs) (λ c. search needs) (λ c. search needs) (λ c. search needs) unread

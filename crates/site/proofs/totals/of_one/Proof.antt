@@ -2,7 +2,7 @@
 use borrow.Author.Needs.{needs}
 use Prim.Native.Nat.{ℕ}
 use native.Mathlib.Omega.{arith}
-use mathlib.Core.Path.{_≡_, sym, ap, _∙_}
+use mathlib.Core.Path.{sym, ap, _∙_}
 use Rattle.site.proofs.Totalling.{adds-nothing, adds-states, adds-all, shifted}
 use Rattle.site.proofs.totals.of_one.Statement.{statement}
 use Rattle.site.proofs.totals.of_one.Tie as tie
