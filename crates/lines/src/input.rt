@@ -123,7 +123,7 @@ pub fn take_line(block: &mut [u8], input: Input, column: &mut [u8]) -> Line
     Line::Full { input }
 }
 
-// 01: "no line is the empty text".
+// 01: "A last line without newline counts if it has a byte".
 fn last_line(length: usize, input: Input) -> Line
     ensures { λ r. ⌜ r ≡ last length input ⌝ }
 {

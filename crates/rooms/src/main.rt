@@ -84,6 +84,7 @@ fn report(taken: &mut [u8], start: Input, column: &mut [u8], block: &mut [u8]) -
                 used = standing.used;
                 lines += 1;
             }
+            // Nothing of the answers is left in the block: they were written before the read that found the end.
             Turn::End => {
                 return Reported::All {
                     used: answers::totals_line(block, 0, totals),
