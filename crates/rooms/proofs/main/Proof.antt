@@ -34,7 +34,7 @@ ends c =
     (w .within, record { texts = w .texts; kept = w .kept; is = w .stands })
 
 within : tie.Need-array-share-prefix-block
-within c = ends (c .before) .0
+within c = omega (arith, ends (c .before) .0)
 
 pub main-spec : {M : Type 1} → statement M
 main-spec =
