@@ -4,14 +4,14 @@ use mathlib.Core.Path.{_≡_}
 use mathlib.Core.Logic.{_↔_}
 use mathlib.Core.Bool.{cond}
 use mathlib.Core.List.{List, [], _∷_, _++_}
-use lib.ListN.{length}
+use lib.ListN.{length, take}
 use lib.Dec.{eqb, ltb}
 use Rattle.theory.specs.Expression.{Expression, entries, letters, letter, binary, union, shuffle}
 use Rattle.theory.specs.Refusal.{Refusal, refusal}
 use Rattle.theory.specs.Automaton.{states, expressions, arcs}
 use Rattle.theory.specs.Grammar.{Text, written}
 use Rattle.theory.specs.Report.{report, Totals, totals}
-use Rattle.theory.specs.Lines.{report-line, totals-line, reports, room-report}
+use Rattle.theory.specs.Lines.{report-line, totals-line, reports, last-line, room-report}
 use Rattle.site.specs.Site.{Shown, InRooms, entry-columns, Made}
 use Rattle.site.specs.Values.{values}
 use Rattle.site.specs.Totals.{with-report}
@@ -88,11 +88,13 @@ pub record ReportPrints : Type 0 where
   -- "prints per line"
   pub no-line : reports [] ≡ []
   pub one-more-line : (texts : List Text) (t : Text) → reports (texts ++ t ∷ []) ≡ reports texts ++ report-line (report t)
-  -- "and a last line of totals"
-  pub totals-last : (texts : List Text) → length texts ≤ 100000 → room-report texts ≡ reports texts ++ totals-line (totals texts)
-  -- "22, more than 100,000 lines, printed after the first 100,000 in place of the totals": refused 22 0
-  pub refused-last : (texts more : List Text) → length texts ≡ 100000 → 0 < length more
-      → room-report (texts ++ more) ≡ reports texts ++ 114 ∷ 101 ∷ 102 ∷ 117 ∷ 115 ∷ 101 ∷ 100 ∷ 32 ∷ 50 ∷ 50 ∷ 32 ∷ 48 ∷ 10 ∷ []
+  -- "and a last line"; "after the first 100,000"
+  pub whole : (texts : List Text) → room-report texts ≡ reports (take 100000 texts) ++ last-line texts
+  -- "of totals"
+  pub totals-last : (texts : List Text) → length texts ≤ 100000 → last-line texts ≡ totals-line (totals texts)
+  -- "22, more than 100,000 lines, printed .. in place of the totals": refused 22 0
+  pub refused-last : (texts : List Text) → 100000 < length texts
+      → last-line texts ≡ 114 ∷ 101 ∷ 102 ∷ 117 ∷ 115 ∷ 101 ∷ 100 ∷ 32 ∷ 50 ∷ 50 ∷ 32 ∷ 48 ∷ 10 ∷ []
 
 -- ---- A report
 

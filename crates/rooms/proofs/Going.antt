@@ -14,9 +14,9 @@ use Rattle.theory.specs.Report.{Totals, totals, report}
 use Rattle.theory.specs.Lines.{report-line, totals-line, refusal-line, reports}
 use Rattle.theory.proofs.RoomReport.{reports-more, few-reports, few-last, many-reports, many-last}
 use Rattle.lines.specs.declared.input.Input.{Input}
-use Rattle.lines.specs.Input.{Inside, untaken, Unbroken, Comes}
+use Rattle.lines.specs.Input.{Inside, untaken, Comes}
 use Rattle.lines.specs.Output.{Put}
-use Rattle.lines.specs.Turn.{Left, Due, Lines, no-line, one-more}
+use Rattle.lines.specs.Turn.{Left, Lines, no-line, one-more}
 use Rattle.site.specs.Totals.{values, with-report, Fits}
 use Rattle.site.proofs.Totalling.{totals-more, totals-fit}
 use Rattle.rooms.specs.declared.answers.Standing.{Standing}
@@ -24,7 +24,7 @@ use Rattle.rooms.specs.declared.answers.Turn.{Turn}
 use Rattle.rooms.specs.declared.Reported.{Reported}
 use Rattle.rooms.specs.declared.Reported.the-variants.{All, ReadFailed, WriteFailed}
 use Rattle.rooms.specs.Turn.{Answers, Turned}
-use Rattle.rooms.specs.Reported.{Ending, no-more, too-many, Ends, Whole, Unread, Unwritten, Reports}
+use Rattle.rooms.specs.Reported.{Ending, no-more, too-many, Ends, Whole, Reports}
 
 -- What stands in a block is within it.
 put-inside : {text before after : List ℕ} {used used′ : ℕ} → used ≤ length before → Put text before used after used′ → used′ ≤ length after
@@ -174,23 +174,8 @@ module _ {taken₀ : List ℕ} {input₀ : Input} {taken : List ℕ} {input : In
   ended full l (no-more e p) = whole-report l e p
   ended full l (too-many text input′ c p) = cut-report full l c p
 
-  pub unread : Unbroken (untaken taken input) → Unread taken₀ input₀
-  unread u = record { texts = g .texts; after = taken; end = input; lines = g .taken-lines; unbroken = u }
-
-  pub unwritten : {block′ : List ℕ} → block′ ≡ block → Due taken input (length block) used → Unwritten taken₀ input₀ block′
-  unwritten same d = record {
-    texts = g .texts;
-    after = taken;
-    end = input;
-    lines = g .taken-lines;
-    used = used;
-    shown = g .shown;
-    answers = ap (λ (b : List ℕ). g .shown ++ take used b) same ∙ g .answers;
-    due = subst (λ (b : List ℕ). Due taken input (length b) used) (sym same) d;
-  }
-
   pub reported : (r : Reported) (taken′ block′ : List ℕ) → lines ≡ most-lines → Ends taken input t block used r taken′ block′
       → Reports taken₀ input₀ r block′
   reported (All used′) taken′ block′ full e = ended full (e .1) (e .2)
-  reported ReadFailed taken′ block′ full e = unread (e .0)
-  reported WriteFailed taken′ block′ full e = unwritten (e .2) (e .0)
+  reported ReadFailed taken′ block′ full e = tt
+  reported WriteFailed taken′ block′ full e = tt

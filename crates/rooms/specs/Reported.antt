@@ -30,8 +30,8 @@ Ends taken input totals block used ReadFailed taken′ block′ =
     Unbroken (untaken taken input) × Left taken input (length block) used 0 × (block′ ≡ block)
 Ends taken input totals block used WriteFailed taken′ block′ = Due taken input (length block) used × (taken′ ≡ taken) × (block′ ≡ block)
 
--- The lines that were taken one after the other: till nothing was left in the block, or one more than 100,000. What was handed on before and what is
--- kept of the answers are those to the first 100,000 at the most, and after what is kept the block holds the last line.
+-- A list of lines that were taken one after the other, till nothing was left in the block or one more than 100,000: the block ends with the last line
+-- of this list, and what stands before it is an end of its answers. So the lines that stand in the block at the start are in the list.
 pub record Whole (taken : List ℕ) (input : Input) (block′ : List ℕ) (used : ℕ) : Type 0 where
   pub texts : List Text
   pub after : List ℕ
@@ -44,33 +44,14 @@ pub record Whole (taken : List ℕ) (input : Input) (block′ : List ℕ) (used 
   pub stands : take used block′ ≡ kept ++ last-line texts
   pub within : used ≤ length block′
 
--- These bytes end a report.
+-- These bytes end a report: that on some list.
 pub record Last (bytes : List ℕ) : Type 0 where
   pub texts : List Text
   pub kept : List ℕ
   pub is : bytes ≡ kept ++ last-line texts
 
--- Where a read fails, a line needed one.
-pub record Unread (taken : List ℕ) (input : Input) : Type 0 where
-  pub texts : List Text
-  pub after : List ℕ
-  pub end : Input
-  pub lines : Lines taken input texts after end
-  pub unbroken : Unbroken (untaken after end)
-
--- Where a write fails, one was due, and what is not written yet stands in the block.
-pub record Unwritten (taken : List ℕ) (input : Input) (block′ : List ℕ) : Type 0 where
-  pub texts : List Text
-  pub after : List ℕ
-  pub end : Input
-  pub lines : Lines taken input texts after end
-  pub used : ℕ
-  pub shown : List ℕ
-  pub answers : shown ++ take used block′ ≡ reports texts
-  pub due : Due after end (length block′) used
-
--- What `report` owes.
+-- What `report` owes. Of a failure it can owe nothing: after the lines that stand in a block a read is always due, and a write before it.
 abbrev pub Reports : List ℕ → Input → Reported → List ℕ → Type 0
 Reports taken input (All used) block′ = Whole taken input block′ used
-Reports taken input ReadFailed block′ = Unread taken input
-Reports taken input WriteFailed block′ = Unwritten taken input block′
+Reports taken input ReadFailed block′ = Unit {0}
+Reports taken input WriteFailed block′ = Unit {0}

@@ -6,7 +6,7 @@ use mathlib.Core.Path.{_≡_, refl, _∙_}
 use lib.ListN.{length}
 use Rattle.theory.specs.Limit.{most-lines}
 use Rattle.site.specs.Totals.{values}
-use Rattle.rooms.proofs.Going.{Going, going-none, turned-as, fits-still, going-more, put-from, whole-report, unread as stopped-unread, unwritten as stopped-unwritten, reported}
+use Rattle.rooms.proofs.Going.{Going, going-none, turned-as, fits-still, going-more, put-from, whole-report, reported}
 use Rattle.rooms.proofs.report.Statement.{statement}
 use Rattle.rooms.proofs.report.Tie as tie
 
@@ -88,17 +88,6 @@ no-more c =
     let h = turned-as (e .enum-told .given .1) (a .answer-next .ensures) .turns in
     whole-report (turn a .before .loop .inv .0) (h .1) (h .0) (put-from (h .2) (p .totals-line .ensures .0))
 
-unread : tie.Need-returns-2 Inv-loop μ-loop
-unread c =
-    let a = called (c .before .before) in
-    stopped-unread (turn a .before .loop .inv .0) (turned-as (c .enum-told2 .given .1) (a .answer-next .ensures) .turns .0)
-
-unwritten : tie.Need-returns-3 Inv-loop μ-loop
-unwritten c =
-    let a = called (c .before .before) in
-    let h = turned-as (c .enum-told3 .given .1) (a .answer-next .ensures) .turns in
-    stopped-unwritten (turn a .before .loop .inv .0) (h .2) (h .0)
-
 end-asked : tie.Need-end-requires Inv-loop μ-loop
 end-asked c κs =
     let at = c .before .before .before .before in
@@ -118,6 +107,6 @@ report-spec =
     (tie.spec Inv-loop μ-loop (λ c κs. search needs) loop-holds
     asked (λ c. search needs) (λ c. omega arith) (λ c. omega arith) loop-again
     (λ c. search needs) last-asked (λ c. search needs) (λ c. search needs) (λ c. search needs) no-more
-    (λ c. search needs) (λ c. search needs) (λ c. search needs) (λ c. search needs) unread
-    (λ c. search needs) (λ c. search needs) (λ c. search needs) (λ c. search needs) unwritten
+    (λ c. search needs) (λ c. search needs) (λ c. search needs) (λ c. search needs) (λ c. search needs)
+    (λ c. search needs) (λ c. search needs) (λ c. search needs) (λ c. search needs) (λ c. search needs)
     end-asked (λ c. search needs) (λ c. search needs) (λ c. search needs) at-end)
