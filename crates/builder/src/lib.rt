@@ -135,7 +135,7 @@ fn rooms(rows: usize, states: usize, arcs: usize) -> Counts
 }
 
 // 01: "sets all lent output and work columns to zero".
-fn clear(
+pub fn clear(
     xkind: &mut [u8],
     xleft: &mut [u16],
     xright: &mut [u16],

@@ -18,7 +18,7 @@ pub enum Judgement {
 }
 
 // 01: "Work columns are zero afterwards."
-fn clear(current: &mut [u64], next: &mut [u64])
+pub fn clear(current: &mut [u64], next: &mut [u64])
     ensures { λ _. ⌜ work (now (current .exit)) (now (next .exit)) ≡ cleared (work (now (current .entry)) (now (next .entry))) ⌝ }
 {
     columns::clear64(current);

@@ -39,3 +39,4 @@ pub mod Accepts
 pub mod MatcherRefusal
 pub mod Verdicts
 pub mod RoomReport
+pub mod Places

@@ -70,3 +70,7 @@ record-long = 16
 -- the room report's own
 abbrev pub lines-many : ℕ
 lines-many = 22
+
+-- the host's
+abbrev pub counts-few : ℕ
+counts-few = 23

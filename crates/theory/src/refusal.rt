@@ -33,3 +33,5 @@ pub const TOO_MANY_ENTRIES: u8 = 15;
 pub const RECORD_LONG: u8 = 16;
 // The room report's own.
 pub const LINES_MANY: u8 = 22;
+// The host's: the slice for the counts has fewer than 4 numbers.
+pub const COUNTS_FEW: u8 = 23;

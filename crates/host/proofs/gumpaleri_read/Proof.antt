@@ -1,0 +1,59 @@
+-- `gumpaleri_read` takes the reader's answer apart.
+use borrow.Author.Needs.{needs}
+use mathlib.Core.Path.{_∙_}
+use Rattle.host.proofs.Storing.{no-count}
+use Rattle.host.proofs.Hosting.{hosted-few, hosted, read-as, reads-place}
+use Rattle.host.proofs.gumpaleri_read.Statement.{statement}
+use Rattle.host.proofs.gumpaleri_read.Tie as tie
+
+-- ---- The places: the two calls, and what the reader answered
+
+abbrev cleared : tie.After-refused-arg → tie.After-clear-table
+cleared c = let k = c .before .before .before in k .before .before .before .before
+
+abbrev short : tie.After-clear-table → tie.Then1
+short c = c .before .before .before .before
+
+abbrev homes : tie.After-slice-known11 → tie.After-left2
+homes c = c .before .before .before
+
+abbrev called : tie.After-slice-known11 → tie.After-read
+called c = homes c .before .before .before
+
+abbrev enough : tie.After-read → tie.Else1
+enough c = c .before .before .before .before
+
+-- ---- The needs
+
+few : tie.Need-returns
+few c =
+    let r = c .before .before in
+    let a = cleared (r .before) in
+    let t = short a in
+    hosted-few (t .if1 .taken) (a .clear-table .ensures) (r .refused .ensures .0) (r .refused .ensures .1)
+
+place-fits : tie.Need-refused-requires-2
+place-fits c κs = let n = c .before .before in reads-place (called (n .before .before) .read .ensures) (n .number .given .1)
+
+unread : tie.Need-returns-2
+unread c =
+    let r = c .before .before in
+    let n = r .before .before .before in
+    let a = called (n .before .before) in
+    let l = enough a .if1 .left in
+    hosted l _ (read-as (a .read .ensures) (n .number .given .1)) (r .refused2 .ensures .0) (r .refused2 .ensures .1 ∙ no-count _ l)
+
+read : tie.Need-returns-3
+read c =
+    let r = c .before .before in
+    let n = r .before .before .before .before in
+    let a = called (n .before .before) in
+    hosted (enough a .if1 .left) _ (read-as (a .read .ensures) (n .entries .given .1)) (r .told .ensures .0) (r .told .ensures .1)
+
+pub gumpaleri-read-spec : {M : Type 1} → statement M
+gumpaleri-read-spec =
+    tie.close
+    (tie.spec (λ c κs. search needs) (λ c κs. search needs) (λ c. search needs) (λ c. search needs) (λ c. search needs) (λ c. search needs) few
+    (λ c κs. search needs) (λ c. search needs) place-fits (λ c. search needs) (λ c. search needs) (λ c κs. search needs)
+    (λ c. search needs) (λ c. search needs) (λ c. search needs) (λ c. search needs) unread
+    (λ c. search needs) (λ c. search needs) (λ c. search needs) (λ c. search needs) read)
