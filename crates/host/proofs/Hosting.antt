@@ -1,22 +1,21 @@
 -- The two ways a call by way of the host goes: with too few numbers for the counts, and with enough of them.
 use Prim.Native.Nat.{ℕ, _≤_, _<_}
+use native.Mathlib.Decide.{ℕ-discrete}
 use native.Mathlib.Omega.{arith}
 use mathlib.Core.Path.{_≡_, ap, subst}
-use mathlib.Core.Bool.{Bool, true, false}
 use mathlib.Core.List.{List}
 use lib.ListN.{length}
-use lib.Dec.{eqb}
 use Rattle.theory.specs.Limit.{most-entries}
-use Rattle.theory.specs.Refusal.{Refusal, refusal, success, counts-few}
+use Rattle.theory.specs.Refusal.{Refusal, refusal, counts-few}
 use Rattle.theory.specs.Column.{zeros, filled}
-use Rattle.theory.specs.Table.{Table, tree}
+use Rattle.theory.specs.Table.{Table}
 use Rattle.theory.specs.Grammar.{Text}
 use Rattle.theory.specs.Language.{Word}
 use Rattle.theory.specs.Read.{Entered, Read}
-use Rattle.theory.specs.Automaton.{states, expressions, arcs}
 use Rattle.theory.specs.Build.{Lent, Counts, counts, Built, build-refusal}
 use Rattle.theory.specs.Record.{Handed, Work}
 use Rattle.theory.specs.Judge.{Judged}
+use Rattle.theory.proofs.Answers.{counts-built, counts-refused}
 use Rattle.theory.proofs.Places.{reader-place, builder-place}
 use Rattle.reader.specs.declared.Reading.{Reading}
 use Rattle.reader.specs.declared.Reading.the-variants as reading
@@ -50,24 +49,11 @@ module _ {text : Text} {t t′ : Table} {x : Reading} (h : Read text t (entered-
       omega (arith, ap (λ (y : Reading). (entered-of y) .refusal .place) e, ap (λ (a : Entered). a .refusal .place) (h .answers))
 
 counts-place : (g : Table) (c : Lent) → (counts g c) .refusal .place ≤ most-entries
-unfolding counts
-counts-place g c = go (eqb ((build-refusal g c) .number) 0)
+counts-place g c = go (ℕ-discrete ((build-refusal g c) .number) 0)
   where
-    some : Bool → Counts
-    some b = elim b [
-      | true ↦
-          record {
-            refusal = success;
-            states = length (states (tree g));
-            expressions = length (expressions (tree g));
-            arcs = length (arcs (tree g));
-          }
-      | false ↦ record { refusal = build-refusal g c; states = 0; expressions = 0; arcs = 0 }
-    ]
-
-    go : (b : Bool) → some b .refusal .place ≤ most-entries
-    go true = omega arith
-    go false = builder-place g c
+    go : Dec ((build-refusal g c) .number ≡ 0) → (counts g c) .refusal .place ≤ most-entries
+    go (yes z) = omega (arith, ap (λ (a : Counts). a .refusal .place) (counts-built g c z))
+    go (no n) = let l = builder-place g c in omega (arith, ap (λ (a : Counts). a .refusal .place) (counts-refused g c n))
 
 module _ {g : Table} {c c′ : Lent} {x : Building} (h : Built g c (counts-of x) c′) where
   pub built-as : {y : Building} → x ≡ y → Built g c (counts-of y) c′

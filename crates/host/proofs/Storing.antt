@@ -1,54 +1,49 @@
--- Numbers stored one after the other from the front of a slice that was zero.
+-- Numbers stored one after the other from the front of a slice, and zero in the rest of it.
 use Prim.Native.Nat.{ℕ, suc, _+_, _-_, _≤_, _<_}
 use native.Mathlib.Numerals.{add-one}
 use native.Mathlib.Omega.{arith}
 use mathlib.Core.Path.{_≡_, refl, sym, ap, ap₂, _∙_}
 use mathlib.Core.List.{List, [], _∷_, _++_}
-use lib.ListN.{length, getD, take, set, length-set, length-take}
-use lib.Seq.{take-suc, take-all, length-take-le}
+use lib.ListN.{length, getD, take, set, length-set}
+use lib.Seq.{take-suc, take-suc-set, take-all}
 use Rattle.theory.specs.Column.{zeros, filled}
-use Rattle.theory.proofs.Column.{zero-filled, column-more}
+use Rattle.theory.proofs.Column.{getD-filled, filled-length}
 
--- The first i of the values stand in the slice, `end` of them in all, and zero behind them.
-pub record Stored (counts₀ values : List ℕ) (end : ℕ) (counts : List ℕ) (i : ℕ) : Type 0 where
-  pub whole : end ≡ length values
-  pub within : i ≤ end
-  pub fits : end ≤ length counts
+-- The first i numbers of the slice, which was counts₀, are those that it is to hold at the end.
+pub record Stored (counts₀ values counts : List ℕ) (end i : ℕ) : Type 0 where
+  pub whole : end ≡ length counts₀
+  pub fits : length values ≤ length counts₀
   pub kept : length counts ≡ length counts₀
-  pub holds : counts ≡ filled (length counts) (take i values)
+  pub front : take i counts ≡ take i (filled (length counts₀) values)
 
-pub stored-none : {counts₀ values counts : List ℕ} {end : ℕ} → end ≡ length values → length values ≤ length counts₀ → counts ≡ zeros (length counts₀)
-    → length counts ≡ length counts₀ → Stored counts₀ values end counts 0
-stored-none {counts₀} {counts = counts} e l z k = record {
-  whole = e;
-  within = omega arith;
-  fits = omega arith;
-  kept = k;
-  holds = z ∙ ap zeros (sym k) ∙ zero-filled (length counts);
-}
+pub stored-none : {counts₀ values : List ℕ} {end : ℕ} → end ≡ length counts₀ → length values ≤ length counts₀ → Stored counts₀ values counts₀ end 0
+stored-none e l = record { whole = e; fits = l; kept = refl; front = refl }
 
-module _ {counts₀ values counts : List ℕ} {end i : ℕ} (s : Stored counts₀ values end counts i) where
-  pub stored-more : i < end → Stored counts₀ values end (set counts i (getD values i 0)) (i + 1)
-  stored-more l =
-      let v = getD values i 0 in
-      let whole = s .whole in
-      let fits = s .fits in
-      let n : length (take i values) ≡ i = length-take-le i values (omega arith) in
-      let next : take (i + 1) values ≡ take i values ++ v ∷ [] = ap (λ (k : ℕ). take k values) (add-one i) ∙ take-suc values i 0 (omega arith) in
+module _ {counts₀ values counts : List ℕ} {end i : ℕ} (s : Stored counts₀ values counts end i) where
+  abbrev goal : List ℕ
+  goal = filled (length counts₀) values
+
+  pub stored-more : {v : ℕ} → i < end → v ≡ getD values i 0 → Stored counts₀ values (set counts i v) end (i + 1)
+  stored-more {v} l e =
+      let here : i < length counts = omega (arith, s .whole, s .kept) in
+      let there : i < length goal = omega (arith, s .whole, filled-length (length counts₀) values (s .fits)) in
       record {
-        whole = whole;
-        within = omega arith;
-        fits = omega (arith, length-set counts i v);
+        whole = s .whole;
+        fits = s .fits;
         kept = length-set counts i v ∙ s .kept;
-        holds =
-            column-more counts (take i values) i v (s .holds) (sym n) (omega arith)
-            ∙ ap (filled (length (set counts i v))) (sym next);
+        front =
+            ap (λ (k : ℕ). take k (set counts i v)) (add-one i)
+            ∙ take-suc-set counts i v here
+            ∙ ap₂ (λ (xs : List ℕ) (x : ℕ). xs ++ x ∷ []) (s .front) (e ∙ sym (getD-filled (length counts₀) values i))
+            ∙ sym (take-suc goal i 0 there)
+            ∙ ap (λ (k : ℕ). take k goal) (sym (add-one i));
       }
 
-  pub stored-all : {n : ℕ} → end ≤ i → length counts₀ ≡ n → counts ≡ filled n values
-  stored-all l k =
-      let e : length values ≤ i = omega (arith, s .whole) in
-      s .holds ∙ ap₂ filled (s .kept ∙ k) (take-all i values e)
+  pub stored-all : end ≤ i → counts ≡ goal
+  stored-all l =
+      sym (take-all i counts (omega (arith, s .whole, s .kept)))
+      ∙ s .front
+      ∙ take-all i goal (omega (arith, s .whole, filled-length (length counts₀) values (s .fits)))
 
 -- On a refusal the counts are zero, as many as there are.
 pub no-count : (n : ℕ) → 4 ≤ n → zeros n ≡ filled n (0 ∷ [])

@@ -5,7 +5,7 @@ use matcher::Judgement;
 use reader::Reading;
 ghost use mathlib.Core.Path.{_≡_};
 ghost use Prim.Native.Nat.{_≤_, _<_};
-ghost use lib.ListN.{length};
+ghost use lib.ListN.{length, getD};
 ghost use Rattle.theory.specs.Refusal.{refusal, success};
 ghost use Rattle.theory.specs.Column.{zeros, filled};
 ghost use Rattle.theory.specs.Table.{table};
@@ -24,14 +24,20 @@ const UNFINISHED: u64 = 2;
 
 const WRONG: u64 = 3;
 
+// The number at i, and zero where there are no more.
+fn number_at(values: &[u64], i: usize) -> u64
+    ensures { λ r. ⌜ r ≡ getD (now (values .entry)) i 0 ⌝ }
+{
+    if i < values.len() { values[i] } else { 0 }
+}
+
 // "receives the counts .. with zero in the rest". 01: "Success is 0 with place 0."
 fn told(counts: &mut [u64], values: &[u64]) -> u64
     requires { ⌜ length (now values) ≤ length (now counts) ⌝ }
     ensures { λ r. ⌜ (r ≡ packed success) × (now (counts .exit) ≡ filled (length (now (counts .entry))) (now (values .entry))) ⌝ }
 {
-    columns::clear64(counts);
-    for i in 0..values.len() {
-        counts[i] = values[i];
+    for i in 0..counts.len() {
+        counts[i] = number_at(values, i);
     }
     0
 }
@@ -41,7 +47,7 @@ fn refused(counts: &mut [u64], number: u8, place: usize) -> u64
     requires { ⌜ place < 4294967296 ⌝ }
     ensures { λ r. ⌜ (r ≡ packed (refusal number place)) × (now (counts .exit) ≡ zeros (length (now (counts .entry)))) ⌝ }
 {
-    columns::clear64(counts);
+    told(counts, &[]);
     number as u64 * 4294967296 + place as u64
 }
 

@@ -18,4 +18,5 @@ pub mod DemandThree
 pub mod ReadThenBuild
 pub mod TextToVerdict
 pub mod Once
+pub mod Host
 pub mod Answers

@@ -23,6 +23,7 @@ numbers-are = record {
     too-many-entries = refl;
     record-long = refl;
     lines-many = refl;
+    counts-few = refl;
   };
   limits = record {
     most-entries = refl;

@@ -21,7 +21,7 @@ read-once = record {
 pub judge-once : JudgeOnce
 judge-once = record { once = λ h k. (h .answers ∙ sym (k .answers), h .cleared ∙ sym (k .cleared)) }
 
-cleared-once : {c d d′ : Lent} → Cleared c d → Cleared c d′ → d ≡ d′
+pub cleared-once : {c d d′ : Lent} → Cleared c d → Cleared c d′ → d ≡ d′
 cleared-once h k =
     λ i. lent (table ((h .kind ∙ sym (k .kind)) i) ((h .left ∙ sym (k .left)) i) ((h .right ∙ sym (k .right)) i)) ((h .expression ∙ sym (k .expression)) i)
     ((h .accepting ∙ sym (k .accepting)) i) ((h .arcs ∙ sym (k .arcs)) i)

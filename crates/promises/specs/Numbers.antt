@@ -25,6 +25,8 @@ pub record RefusalsAre : Type 0 where
   pub record-long : Refusal.record-long ≡ 16
   -- 2026-01
   pub lines-many : Refusal.lines-many ≡ 22
+  -- 2026-02
+  pub counts-few : Refusal.counts-few ≡ 23
 
 pub record LimitsAre : Type 0 where
   -- "A table has 1 to 512 entries."

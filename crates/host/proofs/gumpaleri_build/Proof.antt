@@ -44,7 +44,7 @@ abbrev zeroed : tie.After-slice-known18 → tie.After-clear
 zeroed c = cleared (c .before .before .before)
 
 abbrev refusing : tie.After-slice-known27 → tie.After-build
-refusing c = let n = c .before .before .before in called (n .before .before .before .before)
+refusing c = let n = c .before .before .before in let k = n .before .before in called (k .before .before)
 
 abbrev building : tie.After-slice-known28 → tie.After-build
 building c = let n = c .before .before .before in let k = n .before .before .before in called (k .before .before)
@@ -58,7 +58,7 @@ few : tie.Need-returns
 few c =
     let r = c .before .before in
     let a = cleared (r .before) in
-    hosted-few (short a .if1 .taken) (a .clear .ensures) (r .refused .ensures .0) (r .refused .ensures .1)
+    hosted-few (omega (arith, short a .if1 .taken)) (a .clear .ensures) (r .refused .ensures .0) (r .refused .ensures .1)
 
 place-fits : tie.Need-refused-requires-2
 place-fits c κs = let n = c .before .before in builds-place (called (n .before .before) .build .ensures) (n .number .given .1)
@@ -74,21 +74,27 @@ refused c =
 built : tie.Need-returns-3
 built c =
     let r = c .before .before in
-    let n = r .before .before .before .before in
+    let k = r .before .before .before in
+    let n = k .before in
     let a = called (n .before .before) in
-    hosted (enough a .if1 .left) _ (built-as (a .build .ensures) (n .states .given .1)) (r .told .ensures .0) (r .told .ensures .1)
+    hosted (omega (arith, enough a .if1 .left)) _ (built-as (a .build .ensures) (n .states .given .1)) (r .told .ensures .0) (r .told .ensures .1)
 
 pub gumpaleri-build-spec : {M : Type 1} → statement M
 gumpaleri-build-spec =
     tie.close
     (tie.spec (λ c κs. search needs) (λ c κs. search needs)
-    (λ c. zeroed c .clear .kept .0) (λ c. zeroed c .clear .kept .1 .0) (λ c. zeroed c .clear .kept .1 .1 .0) (λ c. zeroed c .clear .kept .1 .1 .1 .0)
-    (λ c. zeroed c .clear .kept .1 .1 .1 .1 .0) (λ c. zeroed c .clear .kept .1 .1 .1 .1 .1 .0) (λ c. zeroed c .clear .kept .1 .1 .1 .1 .1 .1 .0) (λ c. zeroed c .clear .kept .1 .1 .1 .1 .1 .1 .1 .0)
+    (λ c. zeroed c .clear .kept .0) (λ c. zeroed c .clear .kept .1 .0) (λ c. zeroed c .clear .kept .1 .1 .0)
+    (λ c. zeroed c .clear .kept .1 .1 .1 .0) (λ c. zeroed c .clear .kept .1 .1 .1 .1 .0) (λ c. zeroed c .clear .kept .1 .1 .1 .1 .1 .0)
+    (λ c. zeroed c .clear .kept .1 .1 .1 .1 .1 .1 .0) (λ c. zeroed c .clear .kept .1 .1 .1 .1 .1 .1 .1 .0)
     (λ c. c .before .before .refused .kept .0) few
     (λ c κs. search needs) (λ c. search needs) place-fits (λ c. search needs) (λ c. search needs) told-asked
-    (λ c. refusing c .build .kept .1 .1 .1 .0) (λ c. refusing c .build .kept .1 .1 .1 .1 .0) (λ c. refusing c .build .kept .1 .1 .1 .1 .1 .0) (λ c. refusing c .build .kept .1 .1 .1 .1 .1 .1 .0)
-    (λ c. refusing c .build .kept .1 .1 .1 .1 .1 .1 .1 .0) (λ c. refusing c .build .kept .1 .1 .1 .1 .1 .1 .1 .1 .0) (λ c. refusing c .build .kept .1 .1 .1 .1 .1 .1 .1 .1 .1 .0) (λ c. refusing c .build .kept .1 .1 .1 .1 .1 .1 .1 .1 .1 .1 .0)
+    (λ c. refusing c .build .kept .1 .1 .1 .0) (λ c. refusing c .build .kept .1 .1 .1 .1 .0)
+    (λ c. refusing c .build .kept .1 .1 .1 .1 .1 .0) (λ c. refusing c .build .kept .1 .1 .1 .1 .1 .1 .0)
+    (λ c. refusing c .build .kept .1 .1 .1 .1 .1 .1 .1 .0) (λ c. refusing c .build .kept .1 .1 .1 .1 .1 .1 .1 .1 .0)
+    (λ c. refusing c .build .kept .1 .1 .1 .1 .1 .1 .1 .1 .1 .0) (λ c. refusing c .build .kept .1 .1 .1 .1 .1 .1 .1 .1 .1 .1 .0)
     (λ c. c .before .before .refused2 .kept .0) refused
-    (λ c. building c .build .kept .1 .1 .1 .0) (λ c. building c .build .kept .1 .1 .1 .1 .0) (λ c. building c .build .kept .1 .1 .1 .1 .1 .0) (λ c. building c .build .kept .1 .1 .1 .1 .1 .1 .0)
-    (λ c. building c .build .kept .1 .1 .1 .1 .1 .1 .1 .0) (λ c. building c .build .kept .1 .1 .1 .1 .1 .1 .1 .1 .0) (λ c. building c .build .kept .1 .1 .1 .1 .1 .1 .1 .1 .1 .0) (λ c. building c .build .kept .1 .1 .1 .1 .1 .1 .1 .1 .1 .1 .0)
+    (λ c. building c .build .kept .1 .1 .1 .0) (λ c. building c .build .kept .1 .1 .1 .1 .0)
+    (λ c. building c .build .kept .1 .1 .1 .1 .1 .0) (λ c. building c .build .kept .1 .1 .1 .1 .1 .1 .0)
+    (λ c. building c .build .kept .1 .1 .1 .1 .1 .1 .1 .0) (λ c. building c .build .kept .1 .1 .1 .1 .1 .1 .1 .1 .0)
+    (λ c. building c .build .kept .1 .1 .1 .1 .1 .1 .1 .1 .1 .0) (λ c. building c .build .kept .1 .1 .1 .1 .1 .1 .1 .1 .1 .1 .0)
     (λ c. c .before .before .told .kept .0) built)

@@ -27,7 +27,7 @@ few : tie.Need-returns
 few c =
     let r = c .before .before in
     let a = cleared (r .before) in
-    hosted-few (short a .if1 .taken) (a .clear .ensures) (r .refused .ensures .0) (r .refused .ensures .1)
+    hosted-few (omega (arith, short a .if1 .taken)) (a .clear .ensures) (r .refused .ensures .0) (r .refused .ensures .1)
 
 refused : tie.Need-returns-2
 refused c =
@@ -40,29 +40,33 @@ refused c =
 accepted : tie.Need-returns-3
 accepted c =
     let r = c .before .before in
-    let n = r .before .before .before .before in
+    let k = r .before .before .before in
+    let n = k .before in
     let a = called (n .before .before) in
-    hosted (enough a .if1 .left) _ (judged-as (a .judge .ensures) (n .live .given .1)) (r .told .ensures .0) (r .told .ensures .1)
+    hosted (omega (arith, enough a .if1 .left)) _ (judged-as (a .judge .ensures) (n .live .given .1)) (r .told .ensures .0) (r .told .ensures .1)
 
 unfinished : tie.Need-returns-4
 unfinished c =
     let r = c .before .before in
-    let n = r .before .before .before .before in
+    let k = r .before .before .before in
+    let n = k .before in
     let a = called (n .before .before) in
-    hosted (enough a .if1 .left) _ (judged-as (a .judge .ensures) (n .live2 .given .1)) (r .told2 .ensures .0) (r .told2 .ensures .1)
+    hosted (omega (arith, enough a .if1 .left)) _ (judged-as (a .judge .ensures) (n .live2 .given .1)) (r .told2 .ensures .0) (r .told2 .ensures .1)
 
 wrong : tie.Need-returns-5
 wrong c =
     let r = c .before .before in
-    let n = r .before .before .before .before in
+    let k = r .before .before .before in
+    let n = k .before in
     let a = called (n .before .before) in
-    hosted (enough a .if1 .left) _ (judged-as (a .judge .ensures) (n .place .given .1)) (r .told3 .ensures .0) (r .told3 .ensures .1)
+    hosted (omega (arith, enough a .if1 .left)) _ (judged-as (a .judge .ensures) (n .place .given .1)) (r .told3 .ensures .0) (r .told3 .ensures .1)
 
 pub gumpaleri-judge-spec : {M : Type 1} → statement M
 gumpaleri-judge-spec =
     tie.close
     (tie.spec (λ c κs. search needs) (λ c κs. search needs) (λ c. search needs) (λ c. search needs) (λ c. search needs) few
-    (λ c κs. search needs) (λ c. search needs) (λ c κs. search needs) (λ c. search needs) (λ c. search needs) (λ c κs. search needs) (λ c. search needs) (λ c. search needs) (λ c κs. search needs) (λ c. search needs) (λ c. search needs) (λ c κs. search needs)
+    (λ c κs. search needs) (λ c. search needs) (λ c κs. search needs) (λ c. search needs) (λ c. search needs) (λ c κs. search needs)
+    (λ c. search needs) (λ c. search needs) (λ c κs. search needs) (λ c. search needs) (λ c. search needs) (λ c κs. search needs)
     (λ c. search needs) (λ c. search needs) (λ c. search needs) refused
     (λ c. search needs) (λ c. search needs) (λ c. search needs) accepted
     (λ c. search needs) (λ c. search needs) (λ c. search needs) unfinished

@@ -1,5 +1,6 @@
 -- `gumpaleri_read` takes the reader's answer apart.
 use borrow.Author.Needs.{needs}
+use native.Mathlib.Omega.{arith}
 use mathlib.Core.Path.{_∙_}
 use Rattle.host.proofs.Storing.{no-count}
 use Rattle.host.proofs.Hosting.{hosted-few, hosted, read-as, reads-place}
@@ -9,10 +10,10 @@ use Rattle.host.proofs.gumpaleri_read.Tie as tie
 -- ---- The places: the two calls, and what the reader answered
 
 abbrev cleared : tie.After-refused-arg → tie.After-clear-table
-cleared c = let k = c .before .before .before in k .before .before .before .before
+cleared c = let k = c .before .before .before in let n = k .before .before in n .before .before
 
 abbrev short : tie.After-clear-table → tie.Then1
-short c = c .before .before .before .before
+short c = let k = c .before .before in k .before .before
 
 abbrev homes : tie.After-slice-known11 → tie.After-left2
 homes c = c .before .before .before
@@ -21,7 +22,7 @@ abbrev called : tie.After-slice-known11 → tie.After-read
 called c = homes c .before .before .before
 
 abbrev enough : tie.After-read → tie.Else1
-enough c = c .before .before .before .before
+enough c = let k = c .before .before in k .before .before
 
 -- ---- The needs
 
@@ -29,8 +30,7 @@ few : tie.Need-returns
 few c =
     let r = c .before .before in
     let a = cleared (r .before) in
-    let t = short a in
-    hosted-few (t .if1 .taken) (a .clear-table .ensures) (r .refused .ensures .0) (r .refused .ensures .1)
+    hosted-few (omega (arith, short a .if1 .taken)) (a .clear-table .ensures) (r .refused .ensures .0) (r .refused .ensures .1)
 
 place-fits : tie.Need-refused-requires-2
 place-fits c κs = let n = c .before .before in reads-place (called (n .before .before) .read .ensures) (n .number .given .1)
@@ -46,9 +46,10 @@ unread c =
 read : tie.Need-returns-3
 read c =
     let r = c .before .before in
-    let n = r .before .before .before .before in
+    let k = r .before .before .before in
+    let n = k .before in
     let a = called (n .before .before) in
-    hosted (enough a .if1 .left) _ (read-as (a .read .ensures) (n .entries .given .1)) (r .told .ensures .0) (r .told .ensures .1)
+    hosted (omega (arith, enough a .if1 .left)) _ (read-as (a .read .ensures) (n .entries .given .1)) (r .told .ensures .0) (r .told .ensures .1)
 
 pub gumpaleri-read-spec : {M : Type 1} → statement M
 gumpaleri-read-spec =

@@ -33,7 +33,7 @@ module _ {text : Text} {t : Table} where
   begun v h = short (v .even .0) (v .even .1) (v .short) h
 
   -- The reading that a cause makes due.
-  dues : {r : Refusal} → ReaderCause text t r → (q : Reading) × Due text t q × ((entered q) .refusal ≡ r)
+  pub dues : {r : Refusal} → ReaderCause text t r → (q : Reading) × Due text t q × ((entered q) .refusal ≡ r)
   dues (Causes.differ n) = (_, differ n, refl)
   dues (Causes.long v l) = (_, long (v .0) (v .1) l, refl)
   dues (Causes.broken p b n) = (_, begun (b .legible) (broken p (b .inside) (b .passed) n), refl)
