@@ -58,10 +58,10 @@ few : tie.Need-returns
 few c =
     let r = c .before .before in
     let a = cleared (r .before) in
-    hosted-few (omega (arith, short a .if1 .taken)) (a .clear .ensures) (r .refused .ensures .0) (r .refused .ensures .1)
+    hosted-few (omega (arith, short a .if1 .taken)) (a .clear .ensures) (omega (arith, r .refused .ensures .0)) (r .refused .ensures .1)
 
 place-fits : tie.Need-refused-requires-2
-place-fits c κs = let n = c .before .before in builds-place (called (n .before .before) .build .ensures) (n .number .given .1)
+place-fits c κs = let n = c .before .before in omega (arith, builds-place (called (n .before .before) .build .ensures) (n .number .given .1))
 
 refused : tie.Need-returns-2
 refused c =
@@ -69,7 +69,7 @@ refused c =
     let n = r .before .before .before in
     let a = called (n .before .before) in
     let l = enough a .if1 .left in
-    hosted l _ (built-as (a .build .ensures) (n .number .given .1)) (r .refused2 .ensures .0) (r .refused2 .ensures .1 ∙ no-counts _ l)
+    hosted l _ (built-as (a .build .ensures) (n .number .given .1)) (omega (arith, r .refused2 .ensures .0)) (r .refused2 .ensures .1 ∙ no-counts _ l)
 
 built : tie.Need-returns-3
 built c =
@@ -77,7 +77,7 @@ built c =
     let k = r .before .before .before in
     let n = k .before in
     let a = called (n .before .before) in
-    hosted (omega (arith, enough a .if1 .left)) _ (built-as (a .build .ensures) (n .states .given .1)) (r .told .ensures .0) (r .told .ensures .1)
+    hosted (omega (arith, enough a .if1 .left)) _ (built-as (a .build .ensures) (n .states .given .1)) (omega (arith, r .told .ensures .0)) (r .told .ensures .1)
 
 pub gumpaleri-build-spec : {M : Type 1} → statement M
 gumpaleri-build-spec =

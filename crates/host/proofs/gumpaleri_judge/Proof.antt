@@ -27,7 +27,7 @@ few : tie.Need-returns
 few c =
     let r = c .before .before in
     let a = cleared (r .before) in
-    hosted-few (omega (arith, short a .if1 .taken)) (a .clear .ensures) (r .refused .ensures .0) (r .refused .ensures .1)
+    hosted-few (omega (arith, short a .if1 .taken)) (a .clear .ensures) (omega (arith, r .refused .ensures .0)) (r .refused .ensures .1)
 
 refused : tie.Need-returns-2
 refused c =
@@ -35,7 +35,7 @@ refused c =
     let n = r .before .before .before in
     let a = called (n .before .before) in
     let l = enough a .if1 .left in
-    hosted l _ (judged-as (a .judge .ensures) (n .number .given .1)) (r .refused2 .ensures .0) (r .refused2 .ensures .1 ∙ no-counts _ l)
+    hosted l _ (judged-as (a .judge .ensures) (n .number .given .1)) (omega (arith, r .refused2 .ensures .0)) (r .refused2 .ensures .1 ∙ no-counts _ l)
 
 accepted : tie.Need-returns-3
 accepted c =
@@ -43,7 +43,7 @@ accepted c =
     let k = r .before .before .before in
     let n = k .before in
     let a = called (n .before .before) in
-    hosted (omega (arith, enough a .if1 .left)) _ (judged-as (a .judge .ensures) (n .live .given .1)) (r .told .ensures .0) (r .told .ensures .1)
+    hosted (omega (arith, enough a .if1 .left)) _ (judged-as (a .judge .ensures) (n .live .given .1)) (omega (arith, r .told .ensures .0)) (r .told .ensures .1)
 
 unfinished : tie.Need-returns-4
 unfinished c =
@@ -51,7 +51,7 @@ unfinished c =
     let k = r .before .before .before in
     let n = k .before in
     let a = called (n .before .before) in
-    hosted (omega (arith, enough a .if1 .left)) _ (judged-as (a .judge .ensures) (n .live2 .given .1)) (r .told2 .ensures .0) (r .told2 .ensures .1)
+    hosted (omega (arith, enough a .if1 .left)) _ (judged-as (a .judge .ensures) (n .live2 .given .1)) (omega (arith, r .told2 .ensures .0)) (r .told2 .ensures .1)
 
 wrong : tie.Need-returns-5
 wrong c =
@@ -59,7 +59,7 @@ wrong c =
     let k = r .before .before .before in
     let n = k .before in
     let a = called (n .before .before) in
-    hosted (omega (arith, enough a .if1 .left)) _ (judged-as (a .judge .ensures) (n .place .given .1)) (r .told3 .ensures .0) (r .told3 .ensures .1)
+    hosted (omega (arith, enough a .if1 .left)) _ (judged-as (a .judge .ensures) (n .place .given .1)) (omega (arith, r .told3 .ensures .0)) (r .told3 .ensures .1)
 
 pub gumpaleri-judge-spec : {M : Type 1} → statement M
 gumpaleri-judge-spec =

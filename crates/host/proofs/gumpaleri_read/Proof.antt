@@ -30,10 +30,10 @@ few : tie.Need-returns
 few c =
     let r = c .before .before in
     let a = cleared (r .before) in
-    hosted-few (omega (arith, short a .if1 .taken)) (a .clear-table .ensures) (r .refused .ensures .0) (r .refused .ensures .1)
+    hosted-few (omega (arith, short a .if1 .taken)) (a .clear-table .ensures) (omega (arith, r .refused .ensures .0)) (r .refused .ensures .1)
 
 place-fits : tie.Need-refused-requires-2
-place-fits c κs = let n = c .before .before in reads-place (called (n .before .before) .read .ensures) (n .number .given .1)
+place-fits c κs = let n = c .before .before in omega (arith, reads-place (called (n .before .before) .read .ensures) (n .number .given .1))
 
 unread : tie.Need-returns-2
 unread c =
@@ -41,7 +41,7 @@ unread c =
     let n = r .before .before .before in
     let a = called (n .before .before) in
     let l = enough a .if1 .left in
-    hosted l _ (read-as (a .read .ensures) (n .number .given .1)) (r .refused2 .ensures .0) (r .refused2 .ensures .1 ∙ no-count _ l)
+    hosted l _ (read-as (a .read .ensures) (n .number .given .1)) (omega (arith, r .refused2 .ensures .0)) (r .refused2 .ensures .1 ∙ no-count _ l)
 
 read : tie.Need-returns-3
 read c =
@@ -49,7 +49,7 @@ read c =
     let k = r .before .before .before in
     let n = k .before in
     let a = called (n .before .before) in
-    hosted (omega (arith, enough a .if1 .left)) _ (read-as (a .read .ensures) (n .entries .given .1)) (r .told .ensures .0) (r .told .ensures .1)
+    hosted (omega (arith, enough a .if1 .left)) _ (read-as (a .read .ensures) (n .entries .given .1)) (omega (arith, r .told .ensures .0)) (r .told .ensures .1)
 
 pub gumpaleri-read-spec : {M : Type 1} → statement M
 gumpaleri-read-spec =
