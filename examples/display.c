@@ -1,14 +1,16 @@
 /*
- * A display unit: it takes the text of a site from its manual, builds it in static columns, judges lines of events, and says every answer
- * in words. docs/GUIDE.md, part 6, goes through it.
+ * A display unit: it takes the text of a site from its manual, builds it in static columns, judges lines of events, and says every
+ * answer in words. docs/GUIDE.md, part 6, is about programs like this one; examples/README.md says what is handed to it.
  */
 #include <stdio.h>
 #include <string.h>
 
 #include "gumpaleri.h"
 
-/* ---- The room. Whatever text has at most N entries, at most M of them letters, can be built in it. When the site is known, less is
- *      enough: ./run rooms prints what the site needs, for this one 8 states, 25 expressions and 16 arcs. */
+/*
+ * ---- The room. Whatever text has at most N entries, at most M of them letters, can be built in it. When the site is known, less is
+ * enough: ./run rooms prints what it needs, for the site below 8 states, 25 expressions and 16 arcs.
+ */
 
 #define N 13
 #define M 6

@@ -28,8 +28,9 @@
  * at the same time from several threads if what one of them is lent for writing is lent to no other in any way. So threads may
  * judge against one automaton, each with work columns and counts of its own.
  *
- * STACK. judge takes 0.1 KB. read and build go down with the nesting of the expression: 4 KB for a site with two pumps, 357 KB
- * for the worst text (docs/SIZING.md). Where texts come from somebody else, lend fewer than 512 entries: that limits it.
+ * STACK. judge takes 0.2 KB. read and build go down with the nesting of the expression: for a site with two pumps they take 2 KB and
+ * 4 KB, for the worst texts 22 KB and 354 KB. If texts come from elsewhere, lend no more entries than a site has: then the read
+ * refuses a larger one, and a build takes at most about 2 KB and 0.7 KB for each entry. Measured, not proved (docs/SIZING.md).
  */
 #ifndef GUMPALERI_H
 #define GUMPALERI_H
