@@ -1,6 +1,7 @@
 -- The host's three functions: the packing is undone, 23 comes first, two results that meet a contract are the same, and the customer's demands hold
 -- of what C is answered. Leans on the causes of the three calls and on `Once`.
 use Prim.Native.Nat.{ℕ, _+_, _*_, _^_, _≤_, _<_}
+use native.Mathlib.Nat.{le-trans, mul-le-mul, pow-le-pow-right}
 use native.Mathlib.Decide.{decLt}
 use native.Mathlib.Omega.{arith, by-contra}
 use mathlib.Core.Path.{_≡_, refl, sym, ap, ap₂, _∙_, subst}
@@ -239,10 +240,27 @@ accepts {w = w} run e writable spelled =
       enough = long-enough ((matcher-meets is-judged .exact _) .0 refl) judged-well;
     }) e writable spelled)
 
-sized : {g : Table} {c : Lent} {counts : List ℕ} {r : ℕ} {c′ : Lent} {counts′ : List ℕ} → WellFormed g
-    → letter-entries g ≤ 10 → size g * 2 ^ letter-entries g + 1 ≤ 65535 → Roomy c (size g) (letter-entries g) → 4 ≤ length counts
-    → HostBuilds g c counts r c′ counts′ → r ≡ 0
-sized w letters small roomy l h = let (a, o, e, k) = h .enough l in e ∙ ap packed (demand-three .builds w letters small roomy o)
+-- Columns that are roomy for more entries and letters are roomy for fewer.
+module _ {n m n′ m′ : ℕ} (fewer : n′ ≤ n) (less : m′ ≤ m) where
+  powers : 2 ^ m′ ≤ 2 ^ m
+  powers = pow-le-pow-right (omega arith) less
+
+  products : n′ * 2 ^ m′ ≤ n * 2 ^ m
+  products = mul-le-mul fewer powers
+
+  roomy-for : {c : Lent} → Roomy c n m → Roomy c n′ m′
+  roomy-for r = record {
+    even = r .even;
+    expressions = let l = products in let b = r .expressions in omega arith;
+    states = le-trans powers (r .states);
+    arcs = le-trans (mul-le-mul less (pow-le-pow-right (omega arith) less)) (r .arcs);
+  }
+
+sized : {g : Table} {c : Lent} {counts : List ℕ} {r : ℕ} {c′ : Lent} {counts′ : List ℕ} (n m : ℕ) → WellFormed g → size g ≤ n
+    → letter-entries g ≤ m → m ≤ 10 → n * 2 ^ m + 1 ≤ 65535 → Roomy c n m → 4 ≤ length counts → HostBuilds g c counts r c′ counts′ → r ≡ 0
+sized n m w fewer less letters small roomy l h =
+    let (a, o, e, k) = h .enough l in
+    e ∙ ap packed (demand-three .builds w (le-trans less letters) (let p = products fewer less in omega arith) (roomy-for fewer less roomy) o)
 
 pub host-demands : HostDemands
 host-demands = record { accepts = accepts; sized = sized }

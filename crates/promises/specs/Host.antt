@@ -112,7 +112,7 @@ pub record HostDemands : Type 0 where
   -- The first count is 1 exactly when the record belongs to the language of the expression that the text writes.
   pub accepts : {text : Text} {w : Word} {counts : List ℕ} → HostRun text w counts → (e : Expression) → Writable e → written e ≡ text
       → (getD counts 0 0 ≡ 1) ↔ In e w
-  -- Columns of demand 3's sizes and a slice of 4 numbers: nothing is refused.
-  pub sized : {g : Table} {c : Lent} {counts : List ℕ} {r : ℕ} {c′ : Lent} {counts′ : List ℕ} → WellFormed g
-      → letter-entries g ≤ 10 → size g * 2 ^ letter-entries g + 1 ≤ 65535 → Roomy c (size g) (letter-entries g) → 4 ≤ length counts
-      → HostBuilds g c counts r c′ counts′ → r ≡ 0
+  -- Columns of demand 3's sizes for n entries and m letters, as the header's macros give them, and a slice of 4 numbers: no table of so many entries
+  -- and letters, or of fewer, is refused.
+  pub sized : {g : Table} {c : Lent} {counts : List ℕ} {r : ℕ} {c′ : Lent} {counts′ : List ℕ} (n m : ℕ) → WellFormed g → size g ≤ n
+      → letter-entries g ≤ m → m ≤ 10 → n * 2 ^ m + 1 ≤ 65535 → Roomy c n m → 4 ≤ length counts → HostBuilds g c counts r c′ counts′ → r ≡ 0
