@@ -112,11 +112,11 @@ pub fn with_room(block: &[u8], used: usize, waits: bool) -> Room
 pub fn tell_read_failed() -> Written
     ensures { λ r. ⌜ Wrote 29 r ⌝ }
 {
-    hand_over(libc::STDERR_FILENO, b"gumpaleri 0.3.0: read failed\n")
+    hand_over(libc::STDERR_FILENO, b"gumpaleri 0.4.0: read failed\n")
 }
 
 pub fn tell_write_failed() -> Written
     ensures { λ r. ⌜ Wrote 30 r ⌝ }
 {
-    hand_over(libc::STDERR_FILENO, b"gumpaleri 0.3.0: write failed\n")
+    hand_over(libc::STDERR_FILENO, b"gumpaleri 0.4.0: write failed\n")
 }

@@ -1,7 +1,7 @@
 /*
  * How much stack each call takes for a text, return address and arguments with it.
  *
- *   cc -O2 -static -Iinclude -o target/stack tests/stack.c target/libgumpaleri.a && target/stack '(a.(b.(c.d)))*'
+ *   cc -O2 -static -Iinclude -o target/stack bench/stack.c target/libgumpaleri.a && target/stack '(a.(b.(c.d)))*'
  *
  * A call is made on a stack of its own, which is painted before; how far down the paint is gone afterwards is what it took.  Linked
  * with -static, since else the first memset of a process is looked up on that stack.
