@@ -2,6 +2,7 @@
 
 #include <string.h>
 
+#include "../../include/gumpaleri.h"
 #include "../../peer/memory.h"
 #include "random.h"
 #include "tables.h"
@@ -35,6 +36,11 @@ void make_built_machine(struct machine *machine)
     make_table(&table, between(1, 6));
     struct build_call call = call_with(&table, (struct needs){ STATE_ROOM, 65535, ARC_ROOM }, 4);
     struct build_outcome built = expect_build(&call);
+    if (built.told.refusal.number != SUCCESS) {
+        give_all_back();
+        make_machine(machine);
+        return;
+    }
     fill(machine, sizeof *machine);
     machine->states = built.told.counts[0];
     machine->arcs = built.told.counts[2];
@@ -80,7 +86,7 @@ void make_record(struct record *record, const struct machine *machine)
 
 struct judge_call judge_with(const struct machine *machine, const struct record *record, size_t counts)
 {
-    size_t words = (machine->states + 63) / 64;
+    size_t words = GUMPALERI_WORDS(machine->states);
     return (struct judge_call){
         machine->states, machine->accepting, machine->states, machine->arcs, machine->from, machine->arcs,
         machine->letter, machine->arcs, machine->to, machine->arcs, record->bytes, record->length, words, words, counts,

@@ -1,7 +1,11 @@
 /* The calls of gumpaleri_build. */
+#include <stdio.h>
+
+#include "../../include/gumpaleri.h"
 #include "lengths.h"
 #include "random.h"
 #include "tables.h"
+#include "tally.h"
 #include "try.h"
 
 static void build_with(const struct table *table, struct needs rooms, size_t counts)
@@ -50,7 +54,9 @@ static void plant_child(struct table *table, size_t entry)
 /* Another child, so that one is named twice and one never. */
 static void plant_name(struct table *table, size_t entry)
 {
-    if (entry == 0 || table->kind[entry] < UNION)
+    while (entry > 0 && table->kind[entry] < UNION)
+        entry--;
+    if (entry == 0)
         return;
     table->left[entry] = (uint16_t)below(entry);
     if (table->kind[entry] != STAR && one_in(2))
@@ -60,7 +66,7 @@ static void plant_name(struct table *table, size_t entry)
 static void plant(struct table *table)
 {
     size_t entry = one_in(4) ? table->length - 1 : below(table->length);
-    switch (below(5)) {
+    switch (below(7)) {
     case 0: table->kind[entry] = (uint8_t)(one_in(2) ? 7 : between(7, 255)); break;
     case 1: plant_field(table, entry); break;
     case 2: plant_child(table, entry); break;
@@ -156,6 +162,19 @@ static void make_long(struct table *table, size_t length)
     }
 }
 
+/* Columns that are only read may be the same: here left and right are one column. */
+static void build_overlapping(void)
+{
+    struct table table = { .kind = { EMPTY_WORD, EMPTY_WORD, SHUFFLE }, .length = 3 };
+    for (size_t length = 1; length <= 3; length++) {
+        table.length = length;
+        struct build_call call = call_with(&table, (struct needs){ 4, 4, 4 }, 4);
+        call.right = call.left;
+        struct build_lent lent;
+        try_build(&call, &lent);
+    }
+}
+
 void build_aimed(void)
 {
     static const size_t lengths[] = { 0, 1, 2, 3, 100, 511, 512, 513, 514, TABLE_ROOM - 1 };
@@ -168,6 +187,7 @@ void build_aimed(void)
         for (size_t j = 0; j < sizeof counts / sizeof *counts; j++)
             build_with(&table, needs_of(&table), counts[j]);
     }
+    build_overlapping();
     for (size_t i = 0; i < sizeof lengths / sizeof *lengths; i++) {
         make_long(&table, lengths[i]);
         build_at_needs(&table);
@@ -199,6 +219,60 @@ void build_large(void)
     build_at_needs(&table);
 }
 
+/* Letters one after the other, as the next entries; the last of them is named by none yet. */
+static size_t put_chain(struct table *table, size_t letters, uint16_t first)
+{
+    size_t end = table->length;
+    for (size_t i = 0; i < letters; i++) {
+        size_t leaf = table->length++;
+        table->kind[leaf] = LETTER;
+        table->left[leaf] = (uint16_t)(first + i);
+        if (i > 0) {
+            size_t sign = table->length++;
+            table->kind[sign] = CONCATENATION;
+            table->left[sign] = (uint16_t)end;
+            table->right[sign] = (uint16_t)leaf;
+            leaf = sign;
+        }
+        end = leaf;
+    }
+    return end;
+}
+
+static size_t put_sign(struct table *table, uint8_t sign, size_t left, size_t right)
+{
+    table->kind[table->length] = sign;
+    table->left[table->length] = (uint16_t)left;
+    table->right[table->length] = (uint16_t)right;
+    return table->length++;
+}
+
+/* Three chains shuffled, 39 times 40 times 41 states, and as many stars over an empty word as bring the expressions to the
+   number that is wanted: a star is an expression more, and no state. */
+static void make_wanted(struct table *table, size_t stars)
+{
+    *table = (struct table){ .length = 0 };
+    size_t one = put_chain(table, 38, 1), two = put_chain(table, 39, 60), three = put_chain(table, 40, 120);
+    size_t all = put_sign(table, SHUFFLE, put_sign(table, SHUFFLE, one, two), three);
+    size_t starred = put_sign(table, EMPTY_WORD, 0, 0);
+    while (stars-- > 0)
+        starred = put_sign(table, STAR, starred, 0);
+    put_sign(table, UNION, all, starred);
+}
+
+/* "65,535 for expressions": a need of exactly that many, and of one more, in columns that would hold it.  This takes minutes. */
+void build_limits(void)
+{
+    struct table table;
+    make_wanted(&table, 0);
+    size_t least = needs_of(&table).expressions;
+    printf("tests/host: expressions without stars %zu\n", least);
+    for (size_t wanted = 65535; wanted <= 65536; wanted++) {
+        make_wanted(&table, wanted - least);
+        build_with(&table, (struct needs){ 70000, 70000, 300000 }, 4);
+    }
+}
+
 /* ---- Random calls */
 
 static size_t some_leaves(void)
@@ -217,10 +291,27 @@ static void disturb(struct build_call *call)
         call->kind_length = call->left_length = call->right_length = one_in(2) ? 0 : between(505, 520);
 }
 
+/* "columns of these lengths are always enough: no such expression is refused for room" */
+static void build_in_sizes(const struct table *table)
+{
+    size_t n = table->length, m = 0;
+    for (size_t entry = 0; entry < n; entry++)
+        m += table->kind[entry] == LETTER;
+    if (m > 5)
+        return;
+    struct build_call call = call_with(table, (struct needs){ GUMPALERI_STATES(m), GUMPALERI_EXPRESSIONS(n, m),
+                                                              GUMPALERI_ARCS(m) }, GUMPALERI_COUNTS);
+    struct build_lent lent;
+    if (try_build(&call, &lent) != GUMPALERI_SUCCESS)
+        differs("the header's sizes are not enough");
+}
+
 void build_random(void)
 {
     struct table table = { .length = 0 };
     make_table(&table, some_leaves());
+    if (one_in(10))
+        build_in_sizes(&table);
     if (one_in(2))
         for (size_t times = between(1, 3); times > 0; times--)
             plant(&table);

@@ -3,10 +3,12 @@
 #include <stdlib.h>
 #include <string.h>
 
+#include "../../include/gumpaleri.h"
 #include "automata.h"
 #include "lengths.h"
 #include "random.h"
 #include "tables.h"
+#include "tally.h"
 #include "try.h"
 
 /* ---- Random calls */
@@ -124,6 +126,49 @@ static void judge_lengths(void)
         }
 }
 
+/* The header's own count of words is enough, and one less is not. */
+static void judge_words(void)
+{
+    static const uint8_t none[300];
+    for (size_t states = 1; states <= sizeof none; states++) {
+        struct judge_call call = good;
+        call.states = call.accepting_length = states;
+        call.accepting = none;
+        call.arcs = call.record_length = 0;
+        call.current_length = call.next_length = GUMPALERI_WORDS(states);
+        if (try_judge(&call) != GUMPALERI_SUCCESS)
+            differs("GUMPALERI_WORDS is not enough");
+        *(one_in(2) ? &call.current_length : &call.next_length) -= 1;
+        if (try_judge(&call) != GUMPALERI_WORK_SHORT)
+            differs("GUMPALERI_WORDS is more than is needed");
+    }
+}
+
+/* Columns that are only read may be the same: here each arc leads back to where it comes from, and the record is its letters. */
+static void judge_overlapping(void)
+{
+    for (size_t length = 0; length <= 4; length++) {
+        struct judge_call call = good;
+        call.to = call.from;
+        call.record = call.letter;
+        call.record_length = length;
+        try_judge(&call);
+    }
+}
+
+/* A place that 16 bits do not hold. */
+static void judge_long_record(void)
+{
+    static uint8_t record[70001];
+    static const uint16_t state[] = { 0 };
+    struct judge_call call = { 1, (const uint8_t *)"\1", 1, 1, state, 1, (const uint8_t *)"a", 1, state, 1,
+                               record, sizeof record, 1, 1, 4 };
+    memset(record, 'a', sizeof record);
+    try_judge(&call);
+    record[sizeof record - 1] = 'b';
+    try_judge(&call);
+}
+
 void judge_aimed(void)
 {
     static const char *const records[] = { "", "a", "b", "ab", "ba", "aa", "bb", "abb", "c", "ac" };
@@ -137,6 +182,9 @@ void judge_aimed(void)
     }
     judge_counts();
     judge_lengths();
+    judge_words();
+    judge_overlapping();
+    judge_long_record();
 }
 
 /* ---- Columns at the limits */
@@ -184,7 +232,7 @@ static void give_ring_back(struct wide ring)
 
 static struct judge_call ring_call(struct wide ring, size_t states, size_t state_room, size_t arcs, size_t arc_room)
 {
-    size_t words = (states + 63) / 64;
+    size_t words = GUMPALERI_WORDS(states);
     return (struct judge_call){ states, ring.accepting, state_room, arcs, ring.from, arc_room, ring.letter, arc_room,
                                 ring.to, arc_room, (const uint8_t *)"aab", 2, words, words, 4 };
 }

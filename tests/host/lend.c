@@ -122,6 +122,9 @@ static struct loan *next_loan(const char *name, size_t bytes)
 
 const void *lend_to_read(const char *name, const void *contents, size_t bytes)
 {
+    for (size_t i = 0; i < lent; i++)
+        if (bytes > 0 && loans[i].contents == contents && loans[i].bytes == bytes)
+            return loans[i].at;
     struct loan *loan = next_loan(name, bytes);
     if (bytes > 0)
         memcpy(loan->at, contents, bytes);

@@ -11,7 +11,8 @@ void prepare_lending(void);
 /* A new call: whatever was lent before is there no more. */
 void begin_lending(void);
 
-/* What is only read is a copy of the contents, what is written is filled with random bytes.  The name is for differences. */
+/* What is only read is a copy of the contents, what is written is filled with random bytes.  The name is for differences.
+   "What is only read may overlap": the same contents for reading twice in one call are lent once. */
 const void *lend_to_read(const char *name, const void *contents, size_t bytes);
 void *lend_to_write(const char *name, size_t bytes);
 

@@ -18,7 +18,7 @@ static const char *const tested = stand_in;
 enum { FEWEST_CALLS = 0, RANDOM_CALLS = 800 };
 #else
 static const char *const tested = "the archive";
-enum { FEWEST_CALLS = 20000, RANDOM_CALLS = 8000 };
+enum { FEWEST_CALLS = 20000, RANDOM_CALLS = 9000 };
 #endif
 
 static void call_at_random(size_t calls)
