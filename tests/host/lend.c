@@ -35,19 +35,29 @@ static unsigned char pattern[GUARD];
 static sigjmp_buf after_trial;
 static volatile sig_atomic_t on_trial;
 
-static void on_signal(int signal)
+/* The column beside whose pages the address lies. */
+static const char *column_at(const unsigned char *address)
+{
+    for (size_t i = 0; i < lent; i++)
+        if (address >= slots[i] - page && address < slots[i] + slot_bytes + page)
+            return loans[i].name;
+    return "none that is lent";
+}
+
+static void on_signal(int signal, siginfo_t *info, void *context)
 {
     (void)signal;
+    (void)context;
     if (on_trial)
         siglongjmp(after_trial, 1);
-    ended_by_signal();
+    ended_by_signal(column_at(info->si_addr));
 }
 
 static void watch_signals(void)
 {
     static unsigned char stack[1 << 16];
     stack_t own = { .ss_sp = stack, .ss_size = sizeof stack };
-    struct sigaction action = { .sa_handler = on_signal, .sa_flags = SA_ONSTACK };
+    struct sigaction action = { .sa_sigaction = on_signal, .sa_flags = SA_ONSTACK | SA_SIGINFO };
     sigemptyset(&action.sa_mask);
     if (sigaltstack(&own, NULL) || sigaction(SIGSEGV, &action, NULL) || sigaction(SIGBUS, &action, NULL)) {
         perror("tests/host: signals");

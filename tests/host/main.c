@@ -1,5 +1,6 @@
 /* 2026-02: reader, builder and matcher as a C program calls them, held against the second program.
-   Usage: host [SEED [CALLS]]: CALLS random calls of each function at the least, besides those written down. */
+   Usage: host [SEED [CALLS [limits]]]: CALLS random calls of each function at the least, besides those written down; with limits
+   also two builds that take minutes. */
 #include <inttypes.h>
 #include <stdio.h>
 #include <stdlib.h>
@@ -44,6 +45,8 @@ int main(int argc, char **argv)
     judge_aimed();
     build_large();
     judge_large();
+    if (argc > 3)
+        build_limits();
     call_at_random(argc > 2 ? strtoull(argv[2], NULL, 10) : RANDOM_CALLS);
     bool good = all_met(FEWEST_CALLS);
     printf("tests/host: %s: %s\n", tested, good ? "no difference" : "FAILED");

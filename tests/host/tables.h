@@ -27,9 +27,10 @@ struct needs needs_of(const struct table *table);
 /* The call that hands on the whole table, with those rooms. */
 struct build_call call_with(const struct table *table, struct needs rooms, size_t counts);
 
-/* Calls of gumpaleri_build: those written down, a few large ones, and a random one. */
+/* Calls of gumpaleri_build: those written down, a few large ones, two at 01's limit of expressions, and a random one. */
 void build_aimed(void);
 void build_large(void);
+void build_limits(void);
 void build_random(void);
 
 #endif

@@ -65,14 +65,15 @@ void differs(const char *words, ...)
     exit(EXIT_FAILURE);
 }
 
-void ended_by_signal(void)
+/* Of what a signal interrupts, only write is safe. */
+void ended_by_signal(const char *column)
 {
-    static const char words[] = "\n  a signal: memory beyond a lent column was touched, or the stack ran over\n";
-    static const char first[] = "tests/host: ";
-    ssize_t said = write(STDERR_FILENO, first, sizeof first - 1);
-    said += write(STDERR_FILENO, description, strlen(description));
-    said += write(STDERR_FILENO, words, sizeof words - 1);
-    _exit(said > 0 ? EXIT_FAILURE : 2);
+    const char *const words[] = { "tests/host: ", description, "\n  a signal: memory was touched outside of the column ", column,
+                                  "\n" };
+    for (size_t i = 0; i < sizeof words / sizeof *words; i++)
+        if (write(STDERR_FILENO, words[i], strlen(words[i])) < 0)
+            break;
+    _exit(EXIT_FAILURE);
 }
 
 static bool row_met(enum function function)

@@ -18,8 +18,8 @@ size_t calls_of(enum function function);
 /* Says what differs in the call under way, and ends the program. */
 _Noreturn void differs(const char *words, ...) __attribute__((format(printf, 1, 2)));
 
-/* The same for a signal: what is said was put together before the call. */
-_Noreturn void ended_by_signal(void);
+/* The same for a signal, with the name of the column whose pages were left. */
+_Noreturn void ended_by_signal(const char *column);
 
 /* Prints the table of what was met; false if something was not. */
 bool all_met(size_t fewest_calls);
