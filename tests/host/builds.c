@@ -288,7 +288,7 @@ static void build_in_sizes(const struct table *table)
     size_t n = table->length, m = 0;
     for (size_t entry = 0; entry < n; entry++)
         m += table->kind[entry] == LETTER;
-    if (m > 5)
+    if (m > 5) /* larger columns take their time */
         return;
     struct build_call call = call_with(table, (struct needs){ GUMPALERI_STATES(m), GUMPALERI_EXPRESSIONS(n, m),
                                                               GUMPALERI_ARCS(m) }, GUMPALERI_COUNTS);
@@ -300,7 +300,10 @@ static void build_in_sizes(const struct table *table)
 void build_random(void)
 {
     struct table table = { .length = 0 };
-    make_table(&table, some_leaves());
+    if (one_in(25))
+        make_long(&table, between(250, 512)); /* places that 8 bits do not hold */
+    else
+        make_table(&table, some_leaves());
     if (one_in(10))
         build_in_sizes(&table);
     if (one_in(2))

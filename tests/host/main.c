@@ -39,6 +39,7 @@ int main(int argc, char **argv)
 {
     set_seed(argc > 1 ? strtoull(argv[1], NULL, 10) : 202602);
     printf("tests/host: seed %" PRIu64 ", on %s\n", get_seed(), tested);
+    fflush(stdout);
     prepare_lending();
     read_aimed();
     build_aimed();
@@ -49,6 +50,7 @@ int main(int argc, char **argv)
         build_limits();
     call_at_random(argc > 2 ? strtoull(argv[2], NULL, 10) : RANDOM_CALLS);
     bool good = all_met(FEWEST_CALLS);
-    printf("tests/host: %s: %s\n", tested, good ? "no difference" : "FAILED");
+    printf("tests/host: %s: %zu calls, %s\n", tested, calls_of(OF_READ) + calls_of(OF_BUILD) + calls_of(OF_JUDGE),
+           good ? "no difference" : "FAILED");
     return good && fflush(stdout) == 0 ? EXIT_SUCCESS : EXIT_FAILURE;
 }

@@ -176,6 +176,8 @@ static void read_limits(void)
             put_even(&text, letters);
             put_some(&text, '*', stars);
             read_all_ways(&text);
+            put(&text, ')'); /* the last place that 13 can have */
+            read_all_ways(&text);
         }
 }
 
