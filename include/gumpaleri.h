@@ -5,8 +5,8 @@
  *   gumpaleri_build   turns the table into its automaton
  *   gumpaleri_judge   judges a record against the automaton: accepted, unfinished, or wrong at a byte
  *
- * Link libgumpaleri.a, which `./archive` makes from the sources of this header: x86-64 code in ELF, with the calling convention
- * of Linux. It needs nothing but memcpy and memset. docs/GUIDE.md, part 6, goes through an example.
+ * Link libgumpaleri.a, which `./archive` makes, of the same version: x86-64 code in ELF, with the calling convention of Linux.
+ * It needs nothing but memcpy and memset. docs/GUIDE.md, part 6, goes through an example.
  *
  * WHAT IS LENT. Every column and every text is a pointer, and behind it how many elements it has (not how many bytes).
  *   - So many elements are there. All may be read, and those of a pointer that is not const may be written. The call cannot
@@ -15,18 +15,18 @@
  *     through it, so that any address of that type will do: an empty record is a buffer's address with the length 0.
  *   - An element that is lent for writing belongs to one column of the call alone: such columns, `counts` among them, may
  *     not overlap each other nor anything that the call reads. What is only read may overlap.
- *   - What a column for writing holds before a call is not looked at.
- *   - The columns of one table have one length, else the call refuses with 1. Longer than needed is allowed; what is longer
- *     is written too.
+ *   - What a column for writing holds before a call makes no difference.
+ *   - The columns of one table have one length; else the call refuses. Columns for writing, and those that judge reads, may be
+ *     longer than needed, and what is longer is written too. The table that build reads may not: it is the whole of its columns.
  *
  * WHAT IS ANSWERED. Every call takes any lengths, any numbers and any contents, and ends. It answers number and place of a
  * refusal in one number, gumpaleri_number(..) and gumpaleri_place(..); 0 is success. On success every column that was lent for
  * writing is written whole, with 0 beyond what the call has to say. On a refusal all of them hold 0 in every element, `counts`
  * too, however short it is.
  *
- * WHAT IS KEPT. Nothing: a call has no memory between calls, takes none from a heap and calls nobody back. Calls may be made
- * at the same time from several threads if what one of them is lent for writing is lent to no other in any way. So threads may
- * judge against one automaton, each with work columns and counts of its own.
+ * WHAT IS KEPT. Nothing: the archive has no data of its own, so a call has no memory between calls; it takes none from a heap
+ * and calls nobody back. Calls may be made at the same time from several threads if what one of them is lent for writing is lent
+ * to no other in any way. So threads may judge against one automaton, each with work columns and counts of its own.
  *
  * STACK. judge takes 0.2 KB. read and build go down with the nesting of the expression: for a site with two pumps they take 2 KB and
  * 4 KB, for the worst texts 22 KB and 354 KB. If texts come from elsewhere, lend no more entries than a site has: then the read
@@ -97,18 +97,19 @@ enum {
 
 /* What is in counts[GUMPALERI_VERDICT_AT] after a record was judged; 0 if the call refused. */
 enum gumpaleri_verdict {
-    GUMPALERI_ACCEPTED = 1,   /* the record belongs to the expression's language: an accepting state is reached */
+    GUMPALERI_ACCEPTED = 1,   /* an accepting state is reached: if build made the automaton, the record is in the language */
     GUMPALERI_UNFINISHED = 2, /* states are reached by the whole record, none of them accepting */
-    GUMPALERI_WRONG = 3       /* no state is reached after the byte in counts[GUMPALERI_WRONG_AT], counted from 0 */
+    GUMPALERI_WRONG = 3       /* counts[GUMPALERI_WRONG_AT] is the first byte, from 0, after which no state is reached */
 };
 
 /* ---- Sizes
  *
  * An expression has n entries: each letter, 0, 1, sign and star is one, and parentheses are none. m of them are letters, counted
  * with repeats. With m at most 10 and GUMPALERI_EXPRESSIONS(n, m) at most 65,535, columns of these lengths are always enough:
- * no expression of that size or a smaller one is refused for room. That is proved. Most sites need far less (docs/SIZING.md), and
- * a smaller room is refused only if the expression does not fit in it.
- * With constants these are constants: for the length of a static column, and in #if. Arguments may be evaluated twice.
+ * no expression of that size or a smaller one is refused for room. That is proved (docs/PROMISES.md, host-demands). Most sites
+ * need far less (docs/SIZING.md), and a smaller room is refused only if the expression does not fit in it.
+ * With constants these are constants: for the length of a static column, where m is 1 at the least, and in #if. Arguments may
+ * be evaluated twice.
  */
 
 /* The most that an expression table may have, and a text. */

@@ -45,6 +45,13 @@ module _ {counts₀ values counts : List ℕ} {end i : ℕ} (s : Stored counts�
       ∙ s .front
       ∙ take-all i goal (omega (arith, s .whole, filled-length (length counts₀) values (s .fits)))
 
+-- The same counts, in whatever sums they come.
+pub one-told : (n : ℕ) → 4 ≤ n → {a b : ℕ} → a ≡ b → filled n (a ∷ []) ≡ filled n (b ∷ [])
+one-told n l e = ap (λ (x : ℕ). filled n (x ∷ [])) e
+
+pub three-told : (n : ℕ) → 4 ≤ n → {a b c a′ b′ c′ : ℕ} → a ≡ a′ → b ≡ b′ → c ≡ c′ → filled n (a ∷ b ∷ c ∷ []) ≡ filled n (a′ ∷ b′ ∷ c′ ∷ [])
+three-told n l e f g = λ i. filled n (e i ∷ f i ∷ g i ∷ [])
+
 -- On a refusal the counts are zero, as many as there are.
 pub no-count : (n : ℕ) → 4 ≤ n → zeros n ≡ filled n (0 ∷ [])
 no-count n l = ap zeros (let k : n ≡ suc (n - 1) = omega arith in k)

@@ -1,7 +1,6 @@
--- The host's three functions: the packing is undone, 23 comes first, two results that meet a contract are the same, and the customer's demands hold
--- of what C is answered. Leans on the causes of the three calls and on `Once`.
-use Prim.Native.Nat.{ℕ, _+_, _*_, _^_, _≤_, _<_}
-use native.Mathlib.Nat.{le-trans, mul-le-mul, pow-le-pow-right}
+-- The host's three functions: the packing is undone, the customer's first demand holds of what C is answered, and two results that meet a contract
+-- are the same. Leans on the causes of the three calls and on `Once`.
+use Prim.Native.Nat.{ℕ, _≤_, _<_}
 use native.Mathlib.Decide.{decLt}
 use native.Mathlib.Omega.{arith, by-contra}
 use mathlib.Core.Path.{_≡_, refl, sym, ap, ap₂, _∙_, subst}
@@ -9,31 +8,26 @@ use mathlib.Core.Logic.{_↔_}
 use mathlib.Core.List.{List, [], _∷_}
 use lib.ListN.{length, getD}
 use Rattle.theory.specs.Refusal.{Refusal, refusal, success}
-use Rattle.theory.specs.Expression.{Expression}
-use Rattle.theory.specs.Language.{Word, In}
+use Rattle.theory.specs.Language.{Word}
 use Rattle.theory.specs.Column.{zeros, filled}
-use Rattle.theory.specs.Table.{Table, size}
-use Rattle.theory.specs.Grammar.{Text, written, Writable}
+use Rattle.theory.specs.Table.{Table}
+use Rattle.theory.specs.Grammar.{Text}
 use Rattle.theory.specs.Build.{Lent}
-use Rattle.theory.specs.Record.{Handed, handed, Work, cleared}
+use Rattle.theory.specs.Record.{Handed, Work, cleared}
 use Rattle.theory.proofs.Places as Places
 use Rattle.host.specs.Host.{packed, Hosted, HostReads, HostBuilds, HostJudges}
 use Rattle.host.proofs.Storing.{no-count, no-counts}
-use Rattle.promises.specs.Table.{WellFormed}
 use Rattle.promises.specs.Reader as Reader
 use Rattle.promises.specs.Reader.{ReaderCause}
 use Rattle.promises.specs.Builder.{BuilderCause}
 use Rattle.promises.specs.Matcher as Matcher
-use Rattle.promises.specs.Matcher.{MatcherCause, TooShort}
-use Rattle.promises.specs.DemandThree.{letter-entries, Roomy}
+use Rattle.promises.specs.Matcher.{MatcherCause}
 use Rattle.promises.specs.Once.{SameBuild}
-use Rattle.promises.specs.Host.{HostCause, few, enough, taken-apart, Reversible, PackingUndone, HostMeets, HostDemandOne, HostedAlike, HostOnce, first, HostRun, HostDemands}
+use Rattle.promises.specs.Host.{HostCause, few, enough, taken-apart, Reversible, PackingUndone, HostMeets, HostDemandOne, HostedAlike, HostOnce}
 use Rattle.promises.proofs.Causes.Reader.{dues, reader-numbered, reader-meets}
 use Rattle.promises.proofs.Causes.Builder.{builder-due, builder-numbered, builder-clear, builder-meets}
 use Rattle.promises.proofs.Causes.Matcher.{matcher-numbered, matcher-clear, matcher-meets}
 use Rattle.promises.proofs.Once.{read-once, build-once, judge-once, cleared-once}
-use Rattle.promises.proofs.DemandThree.{demand-three}
-use Rattle.promises.proofs.TextToVerdict.{text-to-verdict}
 
 -- ---- The packing
 
@@ -85,7 +79,7 @@ packing-undone = record {
 module _ {A : Type 0} {refusal-of : A → Refusal} {numbers : A → List ℕ} {Owes : A → Type 0} {Zero : Type 0} {counts : List ℕ} {r : ℕ} {counts′ : List ℕ}
     (h : Hosted refusal-of numbers Owes Zero counts r counts′) where
   -- What follows both ways follows.
-  by-length : {C : Type 0} → (length counts < 4 → Zero → r ≡ packed (refusal 23 0) → counts′ ≡ zeros (length counts) → C)
+  pub by-length : {C : Type 0} → (length counts < 4 → Zero → r ≡ packed (refusal 23 0) → counts′ ≡ zeros (length counts) → C)
       → (4 ≤ length counts → (a : A) → Owes a → r ≡ packed (refusal-of a) → counts′ ≡ filled (length counts) (numbers a) → C) → C
   by-length {C} f g = go (decLt (length counts) 4)
     where
@@ -94,7 +88,7 @@ module _ {A : Type 0} {refusal-of : A → Refusal} {numbers : A → List ℕ} {O
       go (no n) = let l : 4 ≤ length counts = by-contra _ _ n in let (a, o, e, k) = h .enough l in g l a o e k
 
   -- What is answered 0 was not refused by the call either.
-  answered : r ≡ 0 → (a : A) × Owes a × (refusal-of a ≡ success) × (counts′ ≡ filled (length counts) (numbers a))
+  pub answered : r ≡ 0 → (a : A) × Owes a × (refusal-of a ≡ success) × (counts′ ≡ filled (length counts) (numbers a))
   answered z = by-length
       (λ l o e k. absurd (omega arith))
       (λ l a o e k. (a, o, ap₂ refusal (omega arith) (omega arith), k))
@@ -131,9 +125,6 @@ module _ {A : Type 0} {refusal-of : A → Refusal} {numbers : A → List ℕ} {O
       then-enough l f (enough m c) = f c
 
 -- ---- The letter's first demand
-
-number-of : {r s : Refusal} → r ≡ s → r .number ≡ s .number
-number-of e = ap (λ (r : Refusal). r .number) e
 
 reader-clear : {text : Text} {t : Table} {r : Refusal} → ReaderCause text t r → r .number ≡ 0 → r ≡ success
 reader-clear (Reader.differ n) z = absurd (omega arith)
@@ -200,67 +191,3 @@ builds-once {g} {c} {r = r} {d = d} {d′} h k = both h k (λ a b o p. build-onc
 
 pub host-once : HostOnce
 host-once = record { reads = reads-once; builds = builds-once; judges = judges-once }
-
--- ---- The second and the third demand
-
-long-enough : {h : Handed} {k : Work} {r : Refusal} → MatcherCause h k r → r ≡ success → ¬ TooShort k (h .states)
-long-enough (Matcher.differ n) e = absurd (omega (arith, number-of e))
-long-enough (Matcher.malformed v m) e = absurd (omega (arith, number-of e))
-long-enough (Matcher.short v m l) e = absurd (omega (arith, number-of e))
-long-enough (Matcher.none v m l) e = l
-
-accepts : {text : Text} {w : Word} {counts : List ℕ} → HostRun text w counts → (e : Expression) → Writable e → written e ≡ text
-    → (getD counts 0 0 ≡ 1) ↔ In e w
-accepts {w = w} run e writable spelled =
-    let (read, reads, read-well, read-told) = answered (run .reads) refl in
-    let first-count = ap (λ (k : List ℕ). getD k 0 0) read-told in
-    let builds =
-    subst (λ (n : ℕ). HostBuilds (first n (run .table-left)) (run .lent) (run .build-lent) 0 (run .left) (run .build-counts)) first-count
-    (run .builds) in
-    let (built, is-built, built-well, built-told) = answered builds refl in
-    let judges =
-    subst (λ (k : List ℕ). HostJudges (handed (getD k 0 0) (run .left .accepting) (getD k 2 0) (run .left .arcs)) w (run .work) (run .judge-lent) 0
-    (run .work-left) _) built-told (run .judges) in
-    let (verdict, is-judged, judged-well, told) = answered judges refl in
-    subst (λ (v : ℕ). (v ≡ 1) ↔ In e w) (sym (ap (λ (k : List ℕ). getD k 0 0) told))
-    (text-to-verdict .accepts (record {
-      lent-entries = run .table-lent;
-      entries = run .table-left;
-      entered = read;
-      lent = run .lent;
-      tables = run .left;
-      counts = built;
-      work = run .work;
-      work-left = run .work-left;
-      reads = reads;
-      read = number-of read-well;
-      builds = is-built;
-      built = number-of built-well;
-      judges = is-judged;
-      enough = long-enough ((matcher-meets is-judged .exact _) .0 refl) judged-well;
-    }) e writable spelled)
-
--- Columns that are roomy for more entries and letters are roomy for fewer.
-module _ {n m n′ m′ : ℕ} (fewer : n′ ≤ n) (less : m′ ≤ m) where
-  powers : 2 ^ m′ ≤ 2 ^ m
-  powers = pow-le-pow-right (omega arith) less
-
-  products : n′ * 2 ^ m′ ≤ n * 2 ^ m
-  products = mul-le-mul fewer powers
-
-  roomy-for : {c : Lent} → Roomy c n m → Roomy c n′ m′
-  roomy-for r = record {
-    even = r .even;
-    expressions = let l = products in let b = r .expressions in omega arith;
-    states = le-trans powers (r .states);
-    arcs = le-trans (mul-le-mul less (pow-le-pow-right (omega arith) less)) (r .arcs);
-  }
-
-sized : {g : Table} {c : Lent} {counts : List ℕ} {r : ℕ} {c′ : Lent} {counts′ : List ℕ} (n m : ℕ) → WellFormed g → size g ≤ n
-    → letter-entries g ≤ m → m ≤ 10 → n * 2 ^ m + 1 ≤ 65535 → Roomy c n m → 4 ≤ length counts → HostBuilds g c counts r c′ counts′ → r ≡ 0
-sized n m w fewer less letters small roomy l h =
-    let (a, o, e, k) = h .enough l in
-    e ∙ ap packed (demand-three .builds w (le-trans less letters) (let p = products fewer less in omega arith) (roomy-for fewer less roomy) o)
-
-pub host-demands : HostDemands
-host-demands = record { accepts = accepts; sized = sized }

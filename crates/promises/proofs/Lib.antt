@@ -19,4 +19,5 @@ pub mod ReadThenBuild
 pub mod TextToVerdict
 pub mod Once
 pub mod Host
+pub mod HostDemands
 pub mod Answers

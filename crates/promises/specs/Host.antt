@@ -1,17 +1,19 @@
 -- 2026-02, the display unit's host program: what the contracts of its three functions come to.
-use Prim.Native.Nat.{ℕ, _+_, _*_, _/_, _%_, _^_, _≤_, _<_}
+use Prim.Native.Nat.{ℕ, _+_, _-_, _*_, _/_, _%_, _^_, _≤_, _<_}
 use mathlib.Core.Path.{_≡_}
 use mathlib.Core.Logic.{_↔_}
-use mathlib.Core.List.{List}
+use mathlib.Core.List.{List, _∷_}
 use lib.ListN.{length, getD, take}
-use Rattle.theory.specs.Expression.{Expression}
+use Rattle.theory.specs.Expression.{Expression, entries}
+use Rattle.theory.specs.Automaton.{states, expressions, arcs}
 use Rattle.theory.specs.Refusal.{Refusal, refusal}
 use Rattle.theory.specs.Language.{Word, In}
 use Rattle.theory.specs.Column.{zeros}
-use Rattle.theory.specs.Table.{Table, table, size}
+use Rattle.theory.specs.Table.{Table, table, size, tree}
 use Rattle.theory.specs.Grammar.{Text, written, Writable}
 use Rattle.theory.specs.Build.{Lent, Cleared}
-use Rattle.theory.specs.Record.{Handed, handed, Work, cleared}
+use Rattle.theory.specs.Record.{Handed, handed, Work, cleared, accepted, unfinished, wrong}
+use Rattle.theory.specs.Verdict.{SaysOf, Live}
 use Rattle.host.specs.Host.{packed, HostReads, HostBuilds, HostJudges}
 use Rattle.promises.specs.Table.{WellFormed}
 use Rattle.promises.specs.Reader.{ReaderCause}
@@ -84,6 +86,27 @@ pub record HostOnce : Type 0 where
   pub judges : {h : Handed} {w : Word} {k : Work} {counts : List ℕ} {r s : ℕ} {k′ k″ : Work} {counts′ counts″ : List ℕ}
       → HostJudges h w k counts r k′ counts′ → HostJudges h w k counts s k″ counts″ → (r ≡ s) × (k′ ≡ k″) × (counts′ ≡ counts″)
 
+-- ---- What is told where nothing is refused
+
+-- "the verdict (1 accepted, 2 unfinished, 3 wrong), its place (0 unless wrong) and live, with zero in the rest": each exactly where it is so.
+pub record HostTells (h : Handed) (w : Word) (counts counts′ : List ℕ) : Type 0 where
+  pub accepted : (getD counts′ 0 0 ≡ 1) ↔ SaysOf h w accepted
+  pub unfinished : (getD counts′ 0 0 ≡ 2) ↔ SaysOf h w unfinished
+  pub wrong : (p : ℕ) → ((getD counts′ 0 0 ≡ 3) × (getD counts′ 1 0 ≡ p)) ↔ SaysOf h w (wrong p)
+  pub place : ¬ (getD counts′ 0 0 ≡ 3) → getD counts′ 1 0 ≡ 0
+  pub live : Live h w (getD counts′ 2 0)
+  pub rest : (i : ℕ) → 3 ≤ i → getD counts′ i 0 ≡ 0
+  pub whole : length counts′ ≡ length counts
+
+-- "receives the counts (entries, or states, expressions, arcs) .. with zero in the rest".
+pub record HostCounts : Type 0 where
+  pub reads : {text : Text} {t : Table} {counts : List ℕ} {t′ : Table} {counts′ : List ℕ} → HostReads text t counts 0 t′ counts′
+      → (e : Expression) → Writable e → written e ≡ text → counts′ ≡ entries e ∷ zeros (length counts - 1)
+  pub builds : {g : Table} {c : Lent} {counts : List ℕ} {c′ : Lent} {counts′ : List ℕ} → HostBuilds g c counts 0 c′ counts′
+      → counts′ ≡ length (states (tree g)) ∷ length (expressions (tree g)) ∷ length (arcs (tree g)) ∷ zeros (length counts - 3)
+  pub judges : {h : Handed} {w : Word} {k : Work} {counts : List ℕ} {k′ : Work} {counts′ : List ℕ} → HostJudges h w k counts 0 k′ counts′
+      → HostTells h w counts counts′
+
 -- ---- The second and the third demand, by way of the host
 
 -- 01: "a caller who read a text hands on the part of the columns that the reader filled": their first n numbers.
@@ -109,8 +132,13 @@ pub record HostRun (text : Text) (w : Word) (counts : List ℕ) : Type 0 where
   pub judges : HostJudges (handed (getD build-counts 0 0) (left .accepting) (getD build-counts 2 0) (left .arcs)) w work judge-lent 0 work-left counts
 
 pub record HostDemands : Type 0 where
-  -- The first count is 1 exactly when the record belongs to the language of the expression that the text writes.
-  pub accepts : {text : Text} {w : Word} {counts : List ℕ} → HostRun text w counts → (e : Expression) → Writable e → written e ≡ text
+  -- Over a table that was built, from a text or not, the first count is 1 exactly when the record belongs to the language of the table's tree.
+  pub accepts : {g : Table} {c : Lent} {counts : List ℕ} {c′ : Lent} {counts′ : List ℕ} {w : Word} {k : Work} {judge-lent : List ℕ} {k′ : Work}
+      {told : List ℕ} → HostBuilds g c counts 0 c′ counts′
+      → HostJudges (handed (getD counts′ 0 0) (c′ .accepting) (getD counts′ 2 0) (c′ .arcs)) w k judge-lent 0 k′ told
+      → (getD told 0 0 ≡ 1) ↔ In (tree g) w
+  -- And so for the expression that a text writes.
+  pub accepts-text : {text : Text} {w : Word} {counts : List ℕ} → HostRun text w counts → (e : Expression) → Writable e → written e ≡ text
       → (getD counts 0 0 ≡ 1) ↔ In e w
   -- Columns of demand 3's sizes for n entries and m letters, as the header's macros give them, and a slice of 4 numbers: no table of so many entries
   -- and letters, or of fewer, is refused.

@@ -2,7 +2,7 @@
 use borrow.Author.Needs.{needs}
 use native.Mathlib.Omega.{arith}
 use mathlib.Core.Path.{_∙_}
-use Rattle.host.proofs.Storing.{no-counts}
+use Rattle.host.proofs.Storing.{no-counts, three-told}
 use Rattle.host.proofs.Hosting.{hosted-few, hosted, built-as, builds-place}
 use Rattle.host.proofs.gumpaleri_build.Statement.{statement}
 use Rattle.host.proofs.gumpaleri_build.Tie as tie
@@ -77,7 +77,9 @@ built c =
     let k = r .before .before .before in
     let n = k .before in
     let a = called (n .before .before) in
-    hosted (omega (arith, enough a .if1 .left)) _ (built-as (a .build .ensures) (n .states .given .1)) (omega (arith, r .told .ensures .0)) (r .told .ensures .1)
+    let l = enough a .if1 .left in
+    hosted l _ (built-as (a .build .ensures) (n .states .given .1)) (omega (arith, r .told .ensures .0))
+    (r .told .ensures .1 ∙ three-told _ l (omega arith) (omega arith) (omega arith))
 
 pub gumpaleri-build-spec : {M : Type 1} → statement M
 gumpaleri-build-spec =

@@ -2,7 +2,7 @@
 use borrow.Author.Needs.{needs}
 use native.Mathlib.Omega.{arith}
 use mathlib.Core.Path.{_∙_}
-use Rattle.host.proofs.Storing.{no-counts}
+use Rattle.host.proofs.Storing.{no-counts, three-told}
 use Rattle.host.proofs.Hosting.{hosted-few, hosted, judged-as}
 use Rattle.host.proofs.gumpaleri_judge.Statement.{statement}
 use Rattle.host.proofs.gumpaleri_judge.Tie as tie
@@ -43,7 +43,9 @@ accepted c =
     let k = r .before .before .before in
     let n = k .before in
     let a = called (n .before .before) in
-    hosted (omega (arith, enough a .if1 .left)) _ (judged-as (a .judge .ensures) (n .live .given .1)) (omega (arith, r .told .ensures .0)) (r .told .ensures .1)
+    let l = enough a .if1 .left in
+    hosted l _ (judged-as (a .judge .ensures) (n .live .given .1)) (omega (arith, r .told .ensures .0))
+    (r .told .ensures .1 ∙ three-told _ l (omega arith) (omega arith) (omega arith))
 
 unfinished : tie.Need-returns-4
 unfinished c =
@@ -51,7 +53,9 @@ unfinished c =
     let k = r .before .before .before in
     let n = k .before in
     let a = called (n .before .before) in
-    hosted (omega (arith, enough a .if1 .left)) _ (judged-as (a .judge .ensures) (n .live2 .given .1)) (omega (arith, r .told2 .ensures .0)) (r .told2 .ensures .1)
+    let l = enough a .if1 .left in
+    hosted l _ (judged-as (a .judge .ensures) (n .live2 .given .1)) (omega (arith, r .told2 .ensures .0))
+    (r .told2 .ensures .1 ∙ three-told _ l (omega arith) (omega arith) (omega arith))
 
 wrong : tie.Need-returns-5
 wrong c =
@@ -59,7 +63,9 @@ wrong c =
     let k = r .before .before .before in
     let n = k .before in
     let a = called (n .before .before) in
-    hosted (omega (arith, enough a .if1 .left)) _ (judged-as (a .judge .ensures) (n .place .given .1)) (omega (arith, r .told3 .ensures .0)) (r .told3 .ensures .1)
+    let l = enough a .if1 .left in
+    hosted l _ (judged-as (a .judge .ensures) (n .place .given .1)) (omega (arith, r .told3 .ensures .0))
+    (r .told3 .ensures .1 ∙ three-told _ l (omega arith) (omega arith) (omega arith))
 
 pub gumpaleri-judge-spec : {M : Type 1} → statement M
 gumpaleri-judge-spec =

@@ -2,7 +2,7 @@
 use borrow.Author.Needs.{needs}
 use native.Mathlib.Omega.{arith}
 use mathlib.Core.Path.{_∙_}
-use Rattle.host.proofs.Storing.{no-count}
+use Rattle.host.proofs.Storing.{no-count, one-told}
 use Rattle.host.proofs.Hosting.{hosted-few, hosted, read-as, reads-place}
 use Rattle.host.proofs.gumpaleri_read.Statement.{statement}
 use Rattle.host.proofs.gumpaleri_read.Tie as tie
@@ -41,7 +41,8 @@ unread c =
     let n = r .before .before .before in
     let a = called (n .before .before) in
     let l = enough a .if1 .left in
-    hosted l _ (read-as (a .read .ensures) (n .number .given .1)) (omega (arith, r .refused2 .ensures .0)) (r .refused2 .ensures .1 ∙ no-count _ l)
+    hosted l _ (read-as (a .read .ensures) (n .number .given .1)) (omega (arith, r .refused2 .ensures .0))
+    (r .refused2 .ensures .1 ∙ no-count _ l ∙ one-told _ l (omega arith))
 
 read : tie.Need-returns-3
 read c =
@@ -49,7 +50,8 @@ read c =
     let k = r .before .before .before in
     let n = k .before in
     let a = called (n .before .before) in
-    hosted (omega (arith, enough a .if1 .left)) _ (read-as (a .read .ensures) (n .entries .given .1)) (omega (arith, r .told .ensures .0)) (r .told .ensures .1)
+    let l = enough a .if1 .left in
+    hosted l _ (read-as (a .read .ensures) (n .entries .given .1)) (omega (arith, r .told .ensures .0)) (r .told .ensures .1 ∙ one-told _ l (omega arith))
 
 pub gumpaleri-read-spec : {M : Type 1} → statement M
 gumpaleri-read-spec =
