@@ -24,9 +24,9 @@
  * writing is written whole, with 0 beyond what the call has to say. On a refusal all of them hold 0 in every element, `counts`
  * too, however short it is.
  *
- * WHAT IS KEPT. Nothing: the archive has no data of its own, so a call has no memory between calls; it takes none from a heap
- * and calls nobody back. Calls may be made at the same time from several threads if what one of them is lent for writing is lent
- * to no other in any way. So threads may judge against one automaton, each with work columns and counts of its own.
+ * WHAT IS KEPT. Nothing: the archive has no data that can be written, so a call has no memory between calls; it takes none from
+ * a heap and calls nobody back. Calls may be made at the same time from several threads if what one of them is lent for writing is
+ * lent to no other in any way. So threads may judge against one automaton, each with work columns and counts of its own.
  *
  * STACK. judge takes 0.2 KB. read and build go down with the nesting of the expression: for a site with two pumps they take 2 KB and
  * 4 KB, for the worst texts 22 KB and 354 KB. If texts come from elsewhere, lend no more entries than a site has: then the read

@@ -88,6 +88,17 @@ long-enough (Matcher.malformed v m) e = absurd (omega (arith, number-of e))
 long-enough (Matcher.short v m l) e = absurd (omega (arith, number-of e))
 long-enough (Matcher.none v m l) e = l
 
+judged : {g : Table} {c : Lent} {counts : List ℕ} {c′ : Lent} {counts′ : List ℕ} {w : Word} {k : Work} {judge-lent : List ℕ} {r : ℕ} {k′ : Work}
+    {told : List ℕ} → HostBuilds g c counts 0 c′ counts′ → 4 ≤ length judge-lent → ¬ TooShort k (getD counts′ 0 0)
+    → HostJudges (handed (getD counts′ 0 0) (c′ .accepting) (getD counts′ 2 0) (c′ .arcs)) w k judge-lent r k′ told → r ≡ 0
+judged {c′ = c′} {w = w} {k} {judge-lent} {r} {k′} {told} h l s j =
+    let (built, is-built, built-well, built-told) = answered h refl in
+    let judges =
+    subst (λ (x : List ℕ). HostJudges (handed (getD x 0 0) (c′ .accepting) (getD x 2 0) (c′ .arcs)) w k judge-lent r k′ told) built-told j in
+    let enough = subst (λ (x : List ℕ). ¬ TooShort k (getD x 0 0)) built-told s in
+    let (a, o, e, q) = judges .enough l in
+    e ∙ ap packed (demand-two .accepts is-built (number-of built-well) o enough .0)
+
 accepts : {g : Table} {c : Lent} {counts : List ℕ} {c′ : Lent} {counts′ : List ℕ} {w : Word} {k : Work} {judge-lent : List ℕ} {k′ : Work} {told : List ℕ}
     → HostBuilds g c counts 0 c′ counts′ → HostJudges (handed (getD counts′ 0 0) (c′ .accepting) (getD counts′ 2 0) (c′ .arcs)) w k judge-lent 0 k′ told
     → (getD told 0 0 ≡ 1) ↔ In (tree g) w
@@ -135,4 +146,4 @@ sized n m w fewer less letters small roomy l h =
     e ∙ ap packed (demand-three .builds w (le-trans less letters) (let p = products fewer less in omega arith) (roomy-for fewer less roomy) o)
 
 pub host-demands : HostDemands
-host-demands = record { accepts = accepts; accepts-text = accepts-text; sized = sized }
+host-demands = record { judged = judged; accepts = accepts; accepts-text = accepts-text; sized = sized }

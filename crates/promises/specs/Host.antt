@@ -18,7 +18,7 @@ use Rattle.host.specs.Host.{packed, HostReads, HostBuilds, HostJudges}
 use Rattle.promises.specs.Table.{WellFormed}
 use Rattle.promises.specs.Reader.{ReaderCause}
 use Rattle.promises.specs.Builder.{BuilderCause}
-use Rattle.promises.specs.Matcher.{MatcherCause}
+use Rattle.promises.specs.Matcher.{MatcherCause, TooShort}
 use Rattle.promises.specs.Once.{SameBuild}
 use Rattle.promises.specs.DemandThree.{letter-entries, Roomy}
 
@@ -132,7 +132,11 @@ pub record HostRun (text : Text) (w : Word) (counts : List ℕ) : Type 0 where
   pub judges : HostJudges (handed (getD build-counts 0 0) (left .accepting) (getD build-counts 2 0) (left .arcs)) w work judge-lent 0 work-left counts
 
 pub record HostDemands : Type 0 where
-  -- Over a table that was built, from a text or not, the first count is 1 exactly when the record belongs to the language of the table's tree.
+  -- Over a table that was built, from a text or not, with enough words lent and a slice of 4 numbers or more, each record is judged.
+  pub judged : {g : Table} {c : Lent} {counts : List ℕ} {c′ : Lent} {counts′ : List ℕ} {w : Word} {k : Work} {judge-lent : List ℕ} {r : ℕ} {k′ : Work}
+      {told : List ℕ} → HostBuilds g c counts 0 c′ counts′ → 4 ≤ length judge-lent → ¬ TooShort k (getD counts′ 0 0)
+      → HostJudges (handed (getD counts′ 0 0) (c′ .accepting) (getD counts′ 2 0) (c′ .arcs)) w k judge-lent r k′ told → r ≡ 0
+  -- Where the judgement answers 0, the first count is 1 exactly when the record belongs to the language of the table's tree.
   pub accepts : {g : Table} {c : Lent} {counts : List ℕ} {c′ : Lent} {counts′ : List ℕ} {w : Word} {k : Work} {judge-lent : List ℕ} {k′ : Work}
       {told : List ℕ} → HostBuilds g c counts 0 c′ counts′
       → HostJudges (handed (getD counts′ 0 0) (c′ .accepting) (getD counts′ 2 0) (c′ .arcs)) w k judge-lent 0 k′ told
@@ -140,7 +144,7 @@ pub record HostDemands : Type 0 where
   -- And so for the expression that a text writes.
   pub accepts-text : {text : Text} {w : Word} {counts : List ℕ} → HostRun text w counts → (e : Expression) → Writable e → written e ≡ text
       → (getD counts 0 0 ≡ 1) ↔ In e w
-  -- Columns of demand 3's sizes for n entries and m letters, as the header's macros give them, and a slice of 4 numbers: no table of so many entries
-  -- and letters, or of fewer, is refused.
+  -- With m at most 10, n times 2^m plus 1 at most 65,535, even columns of demand 3's sizes for n entries and m letters, as the header's macros give
+  -- them, and a slice of 4 numbers or more: no well-formed table of so many entries and letters, or of fewer, is refused.
   pub sized : {g : Table} {c : Lent} {counts : List ℕ} {r : ℕ} {c′ : Lent} {counts′ : List ℕ} (n m : ℕ) → WellFormed g → size g ≤ n
       → letter-entries g ≤ m → m ≤ 10 → n * 2 ^ m + 1 ≤ 65535 → Roomy c n m → 4 ≤ length counts → HostBuilds g c counts r c′ counts′ → r ≡ 0
