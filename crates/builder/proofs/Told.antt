@@ -15,20 +15,20 @@ use Rattle.builder.specs.declared.letters.Turn.{Turn}
 use Rattle.builder.specs.declared.arcs.Counts.{Counts}
 use Rattle.builder.specs.declared.arcs.Went.{Went}
 
-pub next-as : (letters : Letters) (a : ℕ) {n n' : Next} → n ≡ n' → IsNext letters a n → IsNext letters a n'
-next-as letters a q h = subst (IsNext letters a) q h
+pub next_as : (letters : Letters) (a : ℕ) {n n' : Next} → n ≡ n' → IsNext letters a n → IsNext letters a n'
+next_as letters a q h = subst (IsNext letters a) q h
 
-pub turn-as : (letters : Letters) (first i a states : ℕ) {t t' : Turn} → t ≡ t' → IsTurn letters first i a states t → IsTurn letters first i a states t'
-turn-as letters first i a states q h = subst (IsTurn letters first i a states) q h
+pub turn_as : (letters : Letters) (first i a states : ℕ) {t t' : Turn} → t ≡ t' → IsTurn letters first i a states t → IsTurn letters first i a states t'
+turn_as letters first i a states q h = subst (IsTurn letters first i a states) q h
 
 pub gives_as : {t t' : Table} {n room : ℕ} {ms xs : List Expression} {r r' : Stepped} → r ≡ r' → Gives t n room ms xs r t' → Gives t n room ms xs r' t'
 gives_as {t} {t'} {n} {room} {ms} {xs} q g = subst (λ s. Gives t n room ms xs s t') q g
 
-pub met-as : {c c' : Lent} {k rooms : Counts} {i a r : ℕ} {w w' : Went} → w ≡ w' → Met c k rooms i a r w c' → Met c k rooms i a r w' c'
-met-as {c} {c'} {k} {rooms} {i} {a} {r} q m = subst (λ v. Met c k rooms i a r v c') q m
+pub met_as : {c c' : Lent} {k rooms : Counts} {i a r : ℕ} {w w' : Went} → w ≡ w' → Met c k rooms i a r w c' → Met c k rooms i a r w' c'
+met_as {c} {c'} {k} {rooms} {i} {a} {r} q m = subst (λ v. Met c k rooms i a r v c') q m
 
-pub reaches-as : {e : Expression} {rooms : Counts} {w w' : Went} {c : Lent} → w ≡ w' → Reaches e rooms w c → Reaches e rooms w' c
-reaches-as {e} {rooms} {c = c} q r = subst (λ v. Reaches e rooms v c) q r
+pub reaches_as : {e : Expression} {rooms : Counts} {w w' : Went} {c : Lent} → w ≡ w' → Reaches e rooms w c → Reaches e rooms w' c
+reaches_as {e} {rooms} {c = c} q r = subst (λ v. Reaches e rooms v c) q r
 
-pub begun-as : (e : Expression) (rooms : Counts) (t : Table) (x a : List ℕ) {w w' : Went} → w ≡ w' → Begun e rooms w t x a → Begun e rooms w' t x a
-begun-as e rooms t x a q h = subst (λ v. Begun e rooms v t x a) q h
+pub begun_as : (e : Expression) (rooms : Counts) (t : Table) (x a : List ℕ) {w w' : Went} → w ≡ w' → Begun e rooms w t x a → Begun e rooms w' t x a
+begun_as e rooms t x a q h = subst (λ v. Begun e rooms v t x a) q h

@@ -9,16 +9,16 @@ use borrow.Author.Tests.{eq-eqb}
 use Rattle.theory.specs.Kind as Kind
 use Rattle.theory.specs.Table.{table, tree}
 use Rattle.theory.proofs.Below.{some_at}
-use Rattle.theory.proofs.Used.{letters-entered}
+use Rattle.theory.proofs.Used.{letters_entered}
 use Rattle.builder.specs.Letters.{uses, Gathers}
 use Rattle.builder.specs.declared.letters.Letters.{Letters}
 use Rattle.builder.specs.Progress.{Knows}
 
-pub gathered-knows : (kind left right : List ℕ) (letters : Letters) → Gathers kind left letters → Knows letters (tree (table kind left right))
+pub gathered_knows : (kind left right : List ℕ) (letters : Letters) → Gathers kind left letters → Knows letters (tree (table kind left right))
 unfolding uses
-gathered-knows kind left right letters h a l q m =
-    let (i, below, is-letter, is-a) = letters-entered (table kind left right) a m in
+gathered_knows kind left right letters h a l q m =
+    let (i, below, is_letter, is-a) = letters_entered (table kind left right) a m in
     true≢false
     (sym (some_at (length kind) (λ j. eqb (get_or kind j 0) Kind.letter && eqb (get_or left j 0) a) i below
-    (ap₂ ◌&&◌ (eq-eqb (get_or kind i 0) Kind.letter is-letter) (eq-eqb (get_or left i 0) a is-a)))
+    (ap₂ ◌&&◌ (eq-eqb (get_or kind i 0) Kind.letter is_letter) (eq-eqb (get_or left i 0) a is-a)))
     ∙ sym (h a l) ∙ q)

@@ -1,15 +1,15 @@
 -- How far the automaton of e stands in the lent columns: what is met so far, in 01's order, and what the columns then hold.
 use Rattle.std.specs.Prelude.{ℕ, ◌≤◌, ◌<◌, ◌≡◌, false, cond, ◌⊎◌, length, get_or, take}
 use mathlib.Core.List.{List, [], ◌∷◌, ◌++◌, map, Memᴰ}
-use Rattle.theory.specs.Limit.{most-expressions, most-states, most-arcs, last_letter}
+use Rattle.theory.specs.Limit.{most_expressions, most_states, most_arcs, last_letter}
 use Rattle.theory.specs.Expression.{Expression, letters}
 use Rattle.theory.specs.Distinct.{Within}
-use Rattle.theory.specs.Derivative.{empty-word}
+use Rattle.theory.specs.Derivative.{empty_word}
 use Rattle.theory.specs.Automaton.{states, arcs, expressions}
-use Rattle.theory.specs.Meetings.{Meeting, meeting, meetings, Starts, so_far, to-arc}
+use Rattle.theory.specs.Meetings.{Meeting, meeting, meetings, Starts, so_far, to_arc}
 use Rattle.theory.specs.Column.{zeros, filled}
-use Rattle.theory.specs.Table.{Table, trees, tree-at}
-use Rattle.theory.specs.Arcs.{Spans, no-arcs, filled-arcs}
+use Rattle.theory.specs.Table.{Table, trees, tree_at}
+use Rattle.theory.specs.Arcs.{Spans, no_arcs, filled_arcs}
 use Rattle.theory.specs.Build.{Lent, Names}
 use Rattle.derive.specs.Rows.{Rows}
 use Rattle.builder.specs.Letters.{used}
@@ -22,24 +22,24 @@ use Rattle.builder.specs.declared.arcs.Went.TheVariants.{On, NoRoom}
 pub record Progress (e : Expression) (done : List Meeting) (c : Lent) (k : Counts) : Type 0 where
   pub rows : Rows c.rows k.rows
   pub needed : Within (trees c.rows k.rows) (expressions e)
-  pub state-count : k.states ≡ length (so_far e done)
+  pub state_count : k.states ≡ length (so_far e done)
   pub named : Names c.rows k.rows c.expression (so_far e done)
-  pub accepting : c.accepting ≡ filled (length c.accepting) (map (λ x. cond (empty-word x) 1 0) (so_far e done))
-  pub arc-count : k.arcs ≡ length done
-  pub arcs : c.arcs ≡ filled-arcs c.arcs (map (to-arc (states e)) done)
+  pub accepting : c.accepting ≡ filled (length c.accepting) (map (λ x. cond (empty_word x) 1 0) (so_far e done))
+  pub arc_count : k.arcs ≡ length done
+  pub arcs : c.arcs ≡ filled_arcs c.arcs (map (to_arc (states e)) done)
 
 -- The rooms that the columns have, and that the counts keep within.
 pub record Roomy (c : Lent) (rooms k : Counts) : Type 0 where
   pub rows_in : rooms.rows ≤ length c.rows.kind
-  pub rows-small : rooms.rows ≤ most-expressions
-  pub states-in : rooms.states ≤ length c.expression
-  pub accepting-in : rooms.states ≤ length c.accepting
-  pub states-small : rooms.states ≤ most-states
-  pub arcs-in : Spans c.arcs rooms.arcs
-  pub arcs-small : rooms.arcs ≤ most-arcs
+  pub rows_small : rooms.rows ≤ most_expressions
+  pub states_in : rooms.states ≤ length c.expression
+  pub accepting_in : rooms.states ≤ length c.accepting
+  pub states_small : rooms.states ≤ most_states
+  pub arcs_in : Spans c.arcs rooms.arcs
+  pub arcs_small : rooms.arcs ≤ most_arcs
   pub rows_fit : k.rows ≤ rooms.rows
-  pub states-fit : k.states ≤ rooms.states
-  pub arcs-fit : k.arcs ≤ rooms.arcs
+  pub states_fit : k.states ≤ rooms.states
+  pub arcs_fit : k.arcs ≤ rooms.arcs
 
 -- A need exceeds its room.
 abbrev pub Exceeds : Expression → Counts → Type 0
@@ -53,7 +53,7 @@ Goes e done rooms NoRoom c = Exceeds e rooms
 
 -- State 0 is the given expression.
 abbrev pub root : Lent → Expression
-root c = tree-at c.rows (get_or c.expression 0 0)
+root c = tree_at c.rows (get_or c.expression 0 0)
 
 -- The first of the first n numbers of a column that is x; n where none is.
 pub record FirstEqual (column : List ℕ) (n x i : ℕ) : Type 0 where
@@ -64,21 +64,21 @@ pub record FirstEqual (column : List ℕ) (n x i : ℕ) : Type 0 where
 -- ---- Between the functions of the builder
 
 -- What is met so far is where the meetings of the given expression begin, as many as there are arcs.
-abbrev pub met-so-far : Lent → Counts → List Meeting
-met-so-far c k = take k.arcs (meetings (root c))
+abbrev pub met_so_far : Lent → Counts → List Meeting
+met_so_far c k = take k.arcs (meetings (root c))
 
 pub record Ready (c : Lent) (rooms k : Counts) : Type 0 where
-  pub progress : Progress (root c) (met-so-far c k) c k
+  pub progress : Progress (root c) (met_so_far c k) c k
   pub roomy : Roomy c rooms k
 
 -- The next meeting: from state i by the letter a the tree of a row.
-abbrev pub next-met : Lent → Counts → ℕ → ℕ → ℕ → List Meeting
-next-met c k i a r = met-so-far c k ++ (meeting i a (tree-at c.rows r) ∷ [])
+abbrev pub next_met : Lent → Counts → ℕ → ℕ → ℕ → List Meeting
+next_met c k i a r = met_so_far c k ++ (meeting i a (tree_at c.rows r) ∷ [])
 
 pub record Meets (c : Lent) (k : Counts) (i a r : ℕ) : Type 0 where
   pub state : i < k.states
   pub row : r < k.rows
-  pub next : Starts (root c) (next-met c k i a r)
+  pub next : Starts (root c) (next_met c k i a r)
 
 -- No row came.
 abbrev pub Kept : ℕ → Went → Type 0
@@ -86,30 +86,30 @@ Kept n (On k) = k.rows ≡ n
 Kept n NoRoom = Unit {0}
 
 pub record Met (c : Lent) (k rooms : Counts) (i a r : ℕ) (w : Went) (c' : Lent) : Type 0 where
-  pub goes : Goes (root c) (next-met c k i a r) rooms w c'
+  pub goes : Goes (root c) (next_met c k i a r) rooms w c'
   pub kept : Kept k.rows w
 
 -- The columns of rows and states before the first state: zero, and as long as the rooms.
 pub record Begins (rooms : Counts) (t : Table) (expression accepting : List ℕ) : Type 0 where
-  pub left-length : length t.left ≡ length t.kind
-  pub right-length : length t.right ≡ length t.kind
-  pub kind-zero : t.kind ≡ zeros (length t.kind)
-  pub left-zero : t.left ≡ zeros (length t.left)
+  pub left_length : length t.left ≡ length t.kind
+  pub right_length : length t.right ≡ length t.kind
+  pub kind_zero : t.kind ≡ zeros (length t.kind)
+  pub left_zero : t.left ≡ zeros (length t.left)
   pub right_zero : t.right ≡ zeros (length t.right)
-  pub expression-zero : expression ≡ zeros (length expression)
-  pub accepting-zero : accepting ≡ zeros (length accepting)
+  pub expression_zero : expression ≡ zeros (length expression)
+  pub accepting_zero : accepting ≡ zeros (length accepting)
   pub rows_in : rooms.rows ≤ length t.kind
-  pub rows-small : rooms.rows ≤ most-expressions
-  pub states-in : rooms.states ≤ length expression
-  pub accepting-in : rooms.states ≤ length accepting
+  pub rows_small : rooms.rows ≤ most_expressions
+  pub states_in : rooms.states ≤ length expression
+  pub accepting_in : rooms.states ≤ length accepting
 
 -- All lent columns before the first state.
 pub record Blank (rooms : Counts) (c : Lent) : Type 0 where
   pub begins : Begins rooms c.rows c.expression c.accepting
-  pub states-small : rooms.states ≤ most-states
-  pub arcs-zero : c.arcs ≡ no-arcs c.arcs
-  pub arcs-in : Spans c.arcs rooms.arcs
-  pub arcs-small : rooms.arcs ≤ most-arcs
+  pub states_small : rooms.states ≤ most_states
+  pub arcs_zero : c.arcs ≡ no_arcs c.arcs
+  pub arcs_in : Spans c.arcs rooms.arcs
+  pub arcs_small : rooms.arcs ≤ most_arcs
 
 -- The given expression stands as state 0.
 pub record Standing (e : Expression) (rooms k : Counts) (t : Table) (expression accepting : List ℕ) : Type 0 where
@@ -117,10 +117,10 @@ pub record Standing (e : Expression) (rooms k : Counts) (t : Table) (expression 
   pub needed : Within (trees t k.rows) (expressions e)
   pub rows_fit : k.rows ≤ rooms.rows
   pub one_state : k.states ≡ 1
-  pub no-arc : k.arcs ≡ 0
+  pub no_arc : k.arcs ≡ 0
   pub named : Names t k.rows expression (e ∷ [])
-  pub flags : accepting ≡ filled (length accepting) (cond (empty-word e) 1 0 ∷ [])
-  pub state-room : 1 ≤ rooms.states
+  pub flags : accepting ≡ filled (length accepting) (cond (empty_word e) 1 0 ∷ [])
+  pub state_room : 1 ≤ rooms.states
 
 abbrev pub Begun : Expression → Counts → Went → Table → List ℕ → List ℕ → Type 0
 Begun e rooms (On k) t expression accepting = Standing e rooms k t expression accepting

@@ -3,7 +3,7 @@
 ghost use Rattle.std.specs.Prelude.{◌≡◌, ◌≤◌, ◌<◌, cond, length};
 ghost use Rattle.theory.specs.Automaton.{arc};
 ghost use Rattle.theory.specs.Table.{table};
-ghost use Rattle.theory.specs.Arcs.{arc-columns, with-arc};
+ghost use Rattle.theory.specs.Arcs.{arc_columns, with_arc};
 ghost use Rattle.theory.specs.Build.{lent};
 ghost use Rattle.builder.specs.Progress.{FirstEqual, Ready, Meets, Met};
 
@@ -37,8 +37,8 @@ fn find(expression: &[u16], states: usize, row: usize) -> usize
 
 fn store(n: usize, i: u16, a: u8, j: u16, from: &mut [u16], letter: &mut [u8], to: &mut [u16])
     requires { (n < length from.old) × (n < length letter.old) × (n < length to.old) }
-    ensures { arc-columns from.new letter.new to.new
-        ≡ with-arc (arc-columns from.old letter.old to.old) n (arc i a j) }
+    ensures { arc_columns from.new letter.new to.new
+        ≡ with_arc (arc_columns from.old letter.old to.old) n (arc i a j) }
 {
     from[n] = i;
     letter[n] = a;
@@ -68,17 +68,17 @@ pub fn meet(
     to: &mut [u16],
 ) -> Went
     requires ready { Ready
-        (lent (table xkind.now xleft.now xright.now) expression.old accepting.old (arc-columns from.old letter.old to.old))
+        (lent (table xkind.now xleft.now xright.now) expression.old accepting.old (arc_columns from.old letter.old to.old))
         rooms counts }
     requires meets { Meets
-        (lent (table xkind.now xleft.now xright.now) expression.old accepting.old (arc-columns from.old letter.old to.old))
+        (lent (table xkind.now xleft.now xright.now) expression.old accepting.old (arc_columns from.old letter.old to.old))
         counts i a row }
     ensures { Met
         (lent (table xkind.now xleft.now xright.now) expression.old accepting.old
-        (arc-columns from.old letter.old to.old))
+        (arc_columns from.old letter.old to.old))
         counts rooms i a row result
         (lent (table xkind.now xleft.now xright.now) expression.new accepting.new
-        (arc-columns from.new letter.new to.new)) }
+        (arc_columns from.new letter.new to.new)) }
 {
     let states = counts.states;
     let arcs = counts.arcs;

@@ -1,7 +1,7 @@
 // The letters that a table uses, in ascending order.
 
 ghost use Rattle.std.specs.Prelude.{◌≤◌, ◌<◌, length};
-ghost use Rattle.theory.specs.Limit.{most-states};
+ghost use Rattle.theory.specs.Limit.{most_states};
 ghost use Rattle.builder.specs.Letters.{Gathers, IsNext, IsTurn};
 
 // A set of letters: one mark for each byte value.
@@ -60,7 +60,7 @@ impl Letters {
 
     // After state i by the letter a: the same state by the next letter, or the next state by the first.
     pub fn turn(self, first: u8, i: usize, a: u8, states: usize) -> Turn
-        requires { i < most-states }
+        requires { i < most_states }
         ensures { IsTurn self first i a states result }
     {
         if let Next::Letter { letter } = self.next(a) {

@@ -6,10 +6,10 @@ mod states;
 
 ghost use Rattle.std.specs.Prelude.{◌≡◌, cond, min, length};
 ghost use Rattle.theory.specs.Column.{zeros};
-ghost use Rattle.theory.specs.Refusal.{refusal, columns-differ};
-ghost use Rattle.theory.specs.Table.{table, table-refusal};
-ghost use Rattle.theory.specs.Limit.{most-expressions, most-states, most-arcs};
-ghost use Rattle.theory.specs.Arcs.{arc-columns, no-arcs};
+ghost use Rattle.theory.specs.Refusal.{refusal, columns_differ};
+ghost use Rattle.theory.specs.Table.{table, table_refusal};
+ghost use Rattle.theory.specs.Limit.{most_expressions, most_states, most_arcs};
+ghost use Rattle.theory.specs.Arcs.{arc_columns, no_arcs};
 ghost use Rattle.theory.specs.Build.{lent, Cleared, Built};
 ghost use Rattle.table.specs.Checked.{Scanned};
 ghost use Rattle.builder.specs.Answer.{answer};
@@ -46,10 +46,10 @@ pub fn build(
 ) -> Building
     ensures { Built (table kind.now left.now right.now)
         (lent (table xkind.old xleft.old xright.old) expression.old accepting.old
-        (arc-columns from.old letter.old to.old))
+        (arc_columns from.old letter.old to.old))
         (answer result)
         (lent (table xkind.new xleft.new xright.new) expression.new accepting.new
-        (arc-columns from.new letter.new to.new)) }
+        (arc_columns from.new letter.new to.new)) }
 {
     let even = (xleft.len() == xkind.len())
         & (xright.len() == xkind.len())
@@ -83,7 +83,7 @@ pub fn build(
 // 01: "Builder: 1, 2, 3, then entries from 0 upward, each checked for 4, 5, 6, 7; then 8; then 9." All but 9, which is told by building.
 fn checked(even: bool, kind: &[u8], left: &[u16], right: &[u16]) -> Checked
     ensures { Scanned result
-        (cond even (table-refusal (table kind.now left.now right.now)) (refusal columns-differ 0)) }
+        (cond even (table_refusal (table kind.now left.now right.now)) (refusal columns_differ 0)) }
 {
     if even {
         return table::check(kind, left, right);
@@ -96,7 +96,7 @@ fn checked(even: bool, kind: &[u8], left: &[u16], right: &[u16]) -> Checked
 
 // 01: "Rooms: table length, or 65,535 for expressions and states and 16,777,216 for arcs if that is smaller."
 fn rooms(rows: usize, states: usize, arcs: usize) -> Counts
-    ensures { result ≡ record { rows = min rows most-expressions; states = min states most-states; arcs = min arcs most-arcs } }
+    ensures { result ≡ record { rows = min rows most_expressions; states = min states most_states; arcs = min arcs most_arcs } }
 {
     Counts {
         rows: columns::smaller(rows, theory::limit::EXPRESSIONS),
@@ -118,9 +118,9 @@ pub fn clear(
 )
     ensures { Cleared
         (lent (table xkind.old xleft.old xright.old) expression.old accepting.old
-        (arc-columns from.old letter.old to.old))
+        (arc_columns from.old letter.old to.old))
         (lent (table xkind.new xleft.new xright.new) expression.new accepting.new
-        (arc-columns from.new letter.new to.new)) }
+        (arc_columns from.new letter.new to.new)) }
 {
     columns::clear_table(xkind, xleft, xright);
     clear_automaton(expression, accepting, from, letter, to);
@@ -135,8 +135,8 @@ pub fn clear_automaton(
 )
     ensures expression_after { expression.new ≡ zeros (length expression.old) }
     ensures accepting_after { accepting.new ≡ zeros (length accepting.old) }
-    ensures to_after { arc-columns from.new letter.new to.new
-        ≡ no-arcs (arc-columns from.old letter.old to.old) }
+    ensures to_after { arc_columns from.new letter.new to.new
+        ≡ no_arcs (arc_columns from.old letter.old to.old) }
 {
     columns::clear16(expression);
     columns::clear8(accepting);

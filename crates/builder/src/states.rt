@@ -1,8 +1,8 @@
 // State 0, and all that is met from it on.
 
 ghost use Rattle.std.specs.Prelude.{◌≡◌};
-ghost use Rattle.theory.specs.Table.{table, tree, table-refusal};
-ghost use Rattle.theory.specs.Arcs.{arc-columns};
+ghost use Rattle.theory.specs.Table.{table, tree, table_refusal};
+ghost use Rattle.theory.specs.Arcs.{arc_columns};
 ghost use Rattle.theory.specs.Build.{lent};
 ghost use Rattle.builder.specs.Progress.{Started, Knows, Reaches, Begins, Begun, Blank, root};
 
@@ -26,12 +26,12 @@ pub fn make(
     letter: &mut [u8],
     to: &mut [u16],
 ) -> Went
-    requires right_value { (table-refusal (table kind.now left.now right.now)).number ≡ 0 }
+    requires right_value { (table_refusal (table kind.now left.now right.now)).number ≡ 0 }
     requires blank { Blank rooms
-        (lent (table xkind.old xleft.old xright.old) expression.old accepting.old (arc-columns from.old letter.old to.old)) }
+        (lent (table xkind.old xleft.old xright.old) expression.old accepting.old (arc_columns from.old letter.old to.old)) }
     ensures { Reaches (tree (table kind.now left.now right.now)) rooms result
         (lent (table xkind.new xleft.new xright.new) expression.new accepting.new
-        (arc-columns from.new letter.new to.new)) }
+        (arc_columns from.new letter.new to.new)) }
 {
     let Went::On { counts } = start(
         kind, left, right, rooms, xkind, xleft, xright, expression, accepting,
@@ -56,7 +56,7 @@ fn start(
     expression: &mut [u16],
     accepting: &mut [u8],
 ) -> Went
-    requires right_value { (table-refusal (table kind.now left.now right.now)).number ≡ 0 }
+    requires right_value { (table_refusal (table kind.now left.now right.now)).number ≡ 0 }
     requires begins { Begins rooms (table xkind.old xleft.old xright.old) expression.old accepting.old }
     ensures { Begun (tree (table kind.now left.now right.now)) rooms result
         (table xkind.new xleft.new xright.new) expression.new accepting.new }
@@ -102,18 +102,18 @@ fn fill(
     to: &mut [u16],
 ) -> Went
     requires started { Started
-        (lent (table xkind.old xleft.old xright.old) expression.old accepting.old (arc-columns from.old letter.old to.old))
+        (lent (table xkind.old xleft.old xright.old) expression.old accepting.old (arc_columns from.old letter.old to.old))
         rooms counts }
     requires knows { Knows letters
         (root
-        (lent (table xkind.old xleft.old xright.old) expression.old accepting.old (arc-columns from.old letter.old to.old))) }
+        (lent (table xkind.old xleft.old xright.old) expression.old accepting.old (arc_columns from.old letter.old to.old))) }
     ensures { Reaches
         (root
         (lent (table xkind.old xleft.old xright.old) expression.old accepting.old
-        (arc-columns from.old letter.old to.old)))
+        (arc_columns from.old letter.old to.old)))
         rooms result
         (lent (table xkind.new xleft.new xright.new) expression.new accepting.new
-        (arc-columns from.new letter.new to.new)) }
+        (arc_columns from.new letter.new to.new)) }
 {
     let Next::Letter { letter: first } = letters.next(0) else {
         return Went::On { counts };

@@ -7,7 +7,7 @@ use mathlib.Core.List.{List}
 use lib.ListN.{length, get_or}
 use lib.Dec.{ltb}
 use borrow.Author.Tests.{ltb-true, ltb-false}
-use Rattle.columns.specs.Cursor.{step-at}
+use Rattle.columns.specs.Cursor.{step_at}
 use Rattle.columns.specs.declared.Cursor.{Cursor}
 use Rattle.columns.specs.declared.Step.{Step}
 use Rattle.columns.specs.declared.Step.TheVariants.{Byte, End}
@@ -18,9 +18,9 @@ pub record ByteAt (bytes : List ℕ) (at byte : ℕ) (cursor : Cursor) : Type 0 
   pub here : get_or bytes at 0 ≡ byte
   pub next : cursor.at ≡ at + 1
 
-module _ (bytes : List ℕ) (at : ℕ) {r : Step} (h : r ≡ step-at bytes at) where
-  pub step-byte : {byte : ℕ} {cursor : Cursor} → r ≡ Byte byte cursor → ByteAt bytes at byte cursor
-  step-byte {byte} {cursor} e = go (ltb at (length bytes)) refl
+module _ (bytes : List ℕ) (at : ℕ) {r : Step} (h : r ≡ step_at bytes at) where
+  pub step_byte : {byte : ℕ} {cursor : Cursor} → r ≡ Byte byte cursor → ByteAt bytes at byte cursor
+  step_byte {byte} {cursor} e = go (ltb at (length bytes)) refl
     where
       go : (b : Bool) → ltb at (length bytes) ≡ b → ByteAt bytes at byte cursor
       go true p =

@@ -19,8 +19,8 @@ pub record Cleared (d : List ℕ) (end : ℕ) (column : List ℕ) (i : ℕ) : Ty
 abbrev pub Clearing : List ℕ → ℕ → ℕ → List ℕ → ℕ → Type 0
 Clearing d i₀ end column i = Cleared d end column i
 
-abbrev pub still-set : List ℕ → ℕ → ℕ → List ℕ → ℕ → ℕ
-still-set d i₀ end column i = end - i
+abbrev pub still_set : List ℕ → ℕ → ℕ → List ℕ → ℕ → ℕ
+still_set d i₀ end column i = end - i
 
 module _ {d column : List ℕ} {end i : ℕ} (r : Cleared d end column i) where
   pub cleared_more : i < end → Cleared d end (set column i 0) (i + 1)
@@ -33,7 +33,7 @@ module _ {d column : List ℕ} {end i : ℕ} (r : Cleared d end column i) where
         holds = ap (λ (c : List ℕ). set c i 0) r.holds ∙ fill_more i 0 d (omega arith);
       }
 
-  pub cleared-all : end ≤ i → column ≡ zeros (length d)
-  cleared-all l =
+  pub cleared_all : end ≤ i → column ≡ zeros (length d)
+  cleared_all l =
       let e : i ≡ length d = omega (arith, r.whole, r.within) in
       r.holds ∙ ap (λ (k : ℕ). zeros k ++ drop k d) e ∙ rw drop-length (append-nil (zeros (length d)))

@@ -4,5 +4,5 @@ use Rattle.columns.specs.declared.Step.{Step}
 use Rattle.columns.specs.declared.Step.TheVariants.{Byte, End}
 
 -- the byte at `at` with the cursor after it, or the end
-abbrev pub step-at : List ℕ → ℕ → Step
-step-at s at = cond (ltb at (length s)) (Byte (get_or s at 0) (record { at = at + 1 })) End
+abbrev pub step_at : List ℕ → ℕ → Step
+step_at s at = cond (ltb at (length s)) (Byte (get_or s at 0) (record { at = at + 1 })) End

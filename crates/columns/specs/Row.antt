@@ -9,10 +9,10 @@ use Rattle.columns.specs.declared.Children.TheVariants.{Nothing, One, Two}
 abbrev pub as_row : Row → Entry
 as_row w = record { kind = w.kind; left = w.left; right = w.right }
 
-abbrev pub as-children : Children → List ℕ
-as-children Nothing = []
-as-children (One child) = child ∷ []
-as-children (Two left right) = left ∷ right ∷ []
+abbrev pub as_children : Children → List ℕ
+as_children Nothing = []
+as_children (One child) = child ∷ []
+as_children (Two left right) = left ∷ right ∷ []
 
 -- 01: "sets all lent output and work columns to zero".
 abbrev pub cleared : Table → Table

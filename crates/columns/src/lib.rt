@@ -2,9 +2,9 @@
 
 ghost use Rattle.std.specs.Prelude.{◌≡◌, ◌<◌, min, length};
 ghost use Rattle.theory.specs.Column.{zeros};
-ghost use Rattle.theory.specs.Table.{table, row, row-children};
-ghost use Rattle.columns.specs.Cursor.{step-at};
-ghost use Rattle.columns.specs.Row.{as_row, cleared, as-children};
+ghost use Rattle.theory.specs.Table.{table, row, row_children};
+ghost use Rattle.columns.specs.Cursor.{step_at};
+ghost use Rattle.columns.specs.Row.{as_row, cleared, as_children};
 
 use theory::kind;
 
@@ -68,7 +68,7 @@ pub enum Children {
 
 impl Row {
     pub fn children(self) -> Children
-        ensures { as-children result ≡ row-children (as_row self) }
+        ensures { as_children result ≡ row_children (as_row self) }
     {
         let kind = self.kind;
         let left = self.left as usize;
@@ -113,7 +113,7 @@ impl Cursor {
     }
 
     pub fn step(self, bytes: &[u8]) -> Step
-        ensures { result ≡ step-at bytes.now self.at }
+        ensures { result ≡ step_at bytes.now self.at }
     {
         let at = self.at;
         if at < bytes.len() {

@@ -11,71 +11,71 @@ use lib.ListN.{length}
 use Rattle.theory.specs.Expression.{Expression, same}
 use Rattle.theory.specs.Table.{Table, trees}
 use Rattle.theory.proofs.Distinct.{no_longer}
-use Rattle.theory.proofs.Trees.{trees-length}
+use Rattle.theory.proofs.Trees.{trees_length}
 use Rattle.derive.specs.declared.rows.Interned.{Interned}
 use Rattle.derive.specs.declared.rows.Interned.TheVariants.{At, Full}
 use Rattle.derive.specs.Rows.{Fitted, Came, Held, Short, Answered}
-use Rattle.derive.proofs.Growing.{grown-none, grown-trans, grown-within}
+use Rattle.derive.proofs.Growing.{grown_none, grown_trans, grown_within}
 
 -- ---- Rows
 
-pub came-none : {t : Table} {n room : ℕ} (Need : Expression → Type 0) → Fitted t n room → Came t n room Need t n
-came-none Need f = record { grown = grown-none f.rows; fits = f.fits; each = λ z m. inl m }
+pub came_none : {t : Table} {n room : ℕ} (Need : Expression → Type 0) → Fitted t n room → Came t n room Need t n
+came_none Need f = record { grown = grown_none f.rows; fits = f.fits; each = λ z m. inl m }
 
-pub fitted-then : {t t' : Table} {n n' room : ℕ} {Need : Expression → Type 0} → Fitted t n room → Came t n room Need t' n'
+pub fitted_then : {t t' : Table} {n n' room : ℕ} {Need : Expression → Type 0} → Fitted t n room → Came t n room Need t' n'
     → length t'.kind ≡ length t.kind → Fitted t' n' room
-fitted-then f c e =
-    record { rows = c.grown.rows; fits = c.fits; in-columns = le_trans f.in-columns (le_of_eq (sym e)); small = f.small }
+fitted_then f c e =
+    record { rows = c.grown.rows; fits = c.fits; in_columns = le_trans f.in_columns (le_of_eq (sym e)); small = f.small }
 
 -- A needed tree that is there already is not needed.
 module _ {t t' : Table} {n n' room : ℕ} {Need Need' : Expression → Type 0} (f : (z : Expression) → Need z → Memᴰ z (trees t n) ⊎ Need' z) where
-  pub came-for : Came t n room Need t' n' → Came t n room Need' t' n'
-  came-for c = record { grown = c.grown; fits = c.fits; each = λ z m. ⊎_elim inl (f z) (c.each z m) }
+  pub came_for : Came t n room Need t' n' → Came t n room Need' t' n'
+  came_for c = record { grown = c.grown; fits = c.fits; each = λ z m. ⊎_elim inl (f z) (c.each z m) }
 
-  pub held-for : {Is : Expression → Type 0} {i : ℕ} → Held t n room Need Is i t' n' → Held t n room Need' Is i t' n'
-  held-for h = record { came = came-for h.came; there = h.there; is = h.is }
+  pub held_for : {Is : Expression → Type 0} {i : ℕ} → Held t n room Need Is i t' n' → Held t n room Need' Is i t' n'
+  held_for h = record { came = came_for h.came; there = h.there; is = h.is }
 
 module _ {t t' : Table} {n room : ℕ} {Need Need' : Expression → Type 0} (f : (z : Expression) → Need z → Memᴰ z (trees t n) ⊎ Need' z) where
-  pub short-for : Short t n room Need t' → Short t n room Need' t'
-  short-for s =
+  pub short_for : Short t n room Need t' → Short t n room Need' t'
+  short_for s =
       record {
-        came = came-for f s.came;
+        came = came_for f s.came;
         missing = s.missing;
-        needed = ⊎_elim (λ m. absurd (s.absent (grown-within s.came.grown s.missing m))) (λ p. p) (f s.missing s.needed);
+        needed = ⊎_elim (λ m. absurd (s.absent (grown_within s.came.grown s.missing m))) (λ p. p) (f s.missing s.needed);
         absent = s.absent;
       }
 
 -- ---- One coming after another
 
 module _ {t t' t'' : Table} {n n' room : ℕ} {Need : Expression → Type 0} (c : Came t n room Need t' n') where
-  pub came-then : {n'' : ℕ} → Came t' n' room Need t'' n'' → Came t n room Need t'' n''
-  came-then d = record { grown = grown-trans c.grown d.grown; fits = d.fits; each = λ z m. ⊎_elim (c.each z) inr (d.each z m) }
+  pub came_then : {n'' : ℕ} → Came t' n' room Need t'' n'' → Came t n room Need t'' n''
+  came_then d = record { grown = grown_trans c.grown d.grown; fits = d.fits; each = λ z m. ⊎_elim (c.each z) inr (d.each z m) }
 
   pub held_then : {Is : Expression → Type 0} {i n'' : ℕ} → Held t' n' room Need Is i t'' n'' → Held t n room Need Is i t'' n''
-  held_then h = record { came = came-then h.came; there = h.there; is = h.is }
+  held_then h = record { came = came_then h.came; there = h.there; is = h.is }
 
-  pub short-then : Short t' n' room Need t'' → Short t n room Need t''
-  short-then s = record { came = came-then s.came; missing = s.missing; needed = s.needed; absent = s.absent }
+  pub short_then : Short t' n' room Need t'' → Short t n room Need t''
+  short_then s = record { came = came_then s.came; missing = s.missing; needed = s.needed; absent = s.absent }
 
 -- ---- Answers
 
-pub answered-as : {t t' : Table} {n room : ℕ} {Need : Expression → Type 0} {e : Expression} {r r' : Interned} → r ≡ r' → Answered t n room Need e r t'
+pub answered_as : {t t' : Table} {n room : ℕ} {Need : Expression → Type 0} {e : Expression} {r r' : Interned} → r ≡ r' → Answered t n room Need e r t'
     → Answered t n room Need e r' t'
-answered-as {t} {t'} {n} {room} {Need} {e} q a = subst (λ s. Answered t n room Need e s t') q a
+answered_as {t} {t'} {n} {room} {Need} {e} q a = subst (λ s. Answered t n room Need e s t') q a
 
 -- What came first and what is then answered, each for what is needed in the end.
-pub answered-then : {t t' t'' : Table} {n n' room : ℕ} {Need Need' : Expression → Type 0} {e : Expression} {r : Interned} → Came t n room Need t' n'
+pub answered_then : {t t' t'' : Table} {n n' room : ℕ} {Need Need' : Expression → Type 0} {e : Expression} {r : Interned} → Came t n room Need t' n'
     → ((z : Expression) → Need' z → Need z) → Answered t' n' room Need' e r t'' → Answered t n room Need e r t''
-answered-then {t'' = t''} {room = room} {e = e} {r = At i n''} c f a = record { answer = held_then c (held-for (λ z p. inr (f z p)) a.answer) }
-answered-then {r = Full} c f a = record { answer = short-then c (short-for (λ z p. inr (f z p)) a.answer) }
+answered_then {t'' = t''} {room = room} {e = e} {r = At i n''} c f a = record { answer = held_then c (held_for (λ z p. inr (f z p)) a.answer) }
+answered_then {r = Full} c f a = record { answer = short_then c (short_for (λ z p. inr (f z p)) a.answer) }
 
 -- ---- Counting
 
 -- A list that holds all that is there or needed is longer than a room that is too small for it.
-pub short-exceeds : {t t' : Table} {n room : ℕ} {Need : Expression → Type 0} → Short t n room Need t' → (all : List Expression)
+pub short_exceeds : {t t' : Table} {n room : ℕ} {Need : Expression → Type 0} → Short t n room Need t' → (all : List Expression)
     → ((z : Expression) → Memᴰ z (trees t n) ⊎ Need z → Memᴰ z all) → room < length all
-short-exceeds {t' = t'} {room = room} {Need = Need} s all holds =
+short_exceeds {t' = t'} {room = room} {Need = Need} s all holds =
     let l =
     no_longer same (s.missing ∷ trees t' room) all (s.absent, s.came.grown.rows.once)
     (λ z m. holds z (⊎_elim (λ e. inr (subst Need (sym e) s.needed)) (s.came.each z) (Memᴰ.cases_cons m))) in
-    omega (arith, trees-length t' room)
+    omega (arith, trees_length t' room)

@@ -2,57 +2,57 @@
 use Prim.Native.Nat.{ℕ, ◌<◌}
 use mathlib.Core.Path.{◌≡◌, refl, sym, ap, ap₂, ◌∙◌, subst}
 use Rattle.theory.specs.Expression.{pair}
-use Rattle.theory.specs.Table.{Table, Row, entry, kind-of-sign, tree-at, trees, row-tree, Sound, of-sign}
-use Rattle.theory.proofs.Sound.{sign-tree}
-use Rattle.theory.proofs.Trees.{trees-below}
+use Rattle.theory.specs.Table.{Table, Row, entry, kind_of_sign, tree_at, trees, row_tree, Sound, of_sign}
+use Rattle.theory.proofs.Sound.{sign_tree}
+use Rattle.theory.proofs.Trees.{trees_below}
 use Rattle.derive.specs.declared.rows.Interned.{Interned}
 use Rattle.derive.specs.declared.rows.Interned.TheVariants.{At}
 use Rattle.derive.specs.declared.sides.Join.{Join}
 use Rattle.derive.specs.declared.sides.Join.TheVariants.{Followed, Shuffled, Shuffles}
 use Rattle.derive.specs.Rows.{Fitted, Interns}
-use Rattle.derive.specs.Sides.{join-sign, arranged, beside}
-use Rattle.derive.proofs.Growing.{not-ε}
-use Rattle.derive.proofs.Interning.{intern-there}
-use Rattle.derive.proofs.Joining.{paired, beside-literal, beside-ε, beside-pair}
+use Rattle.derive.specs.Sides.{join_sign, arranged, beside}
+use Rattle.derive.proofs.Growing.{not_ε}
+use Rattle.derive.proofs.Interning.{intern_there}
+use Rattle.derive.proofs.Joining.{paired, beside_literal, beside_ε, beside_pair}
 
 -- The row of a member's row joined with the other row.
-abbrev joined-row : Join → ℕ → ℕ → Row
-joined-row j other member = arranged j (entry (kind-of-sign (join-sign j))) member other
+abbrev joined_row : Join → ℕ → ℕ → Row
+joined_row j other member = arranged j (entry (kind_of_sign (join_sign j))) member other
 
 module _ {t : Table} {n room other member : ℕ} (f : Fitted t n room) (there : (other < n) × (member < n)) (j : Join) where
-  pub lift-literal : other ≡ 0 → Interns t n room (beside j (tree-at t other) (tree-at t member)) (At member n) t
-  lift-literal e =
-      intern-there f there.1 (sym (ap (λ o. beside j o (tree-at t member)) (ap (tree-at t) e ∙ f.rows.literal) ∙ beside-literal j (tree-at t member)))
+  pub lift_literal : other ≡ 0 → Interns t n room (beside j (tree_at t other) (tree_at t member)) (At member n) t
+  lift_literal e =
+      intern_there f there.1 (sym (ap (λ o. beside j o (tree_at t member)) (ap (tree_at t) e ∙ f.rows.literal) ∙ beside_literal j (tree_at t member)))
 
-  pub lift-empty : member ≡ 0 → Interns t n room (beside j (tree-at t other) (tree-at t member)) (At other n) t
-  lift-empty e =
-      intern-there f there.0 (sym (ap (beside j (tree-at t other)) (ap (tree-at t) e ∙ f.rows.literal) ∙ beside-ε j (tree-at t other)))
+  pub lift_empty : member ≡ 0 → Interns t n room (beside j (tree_at t other) (tree_at t member)) (At other n) t
+  lift_empty e =
+      intern_there f there.0 (sym (ap (beside j (tree_at t other)) (ap (tree_at t) e ∙ f.rows.literal) ∙ beside_ε j (tree_at t other)))
 
   -- The row is sound, and its tree is the join's.
-  joined-sound : (i : Join) → Sound n (joined-row i other member)
-  joined-sound Followed = of-sign (join-sign Followed) member other there.1 there.0 refl
-  joined-sound Shuffled = of-sign (join-sign Shuffled) member other there.1 there.0 refl
-  joined-sound Shuffles = of-sign (join-sign Shuffles) other member there.0 there.1 refl
+  joined_sound : (i : Join) → Sound n (joined_row i other member)
+  joined_sound Followed = of_sign (join_sign Followed) member other there.1 there.0 refl
+  joined_sound Shuffled = of_sign (join_sign Shuffled) member other there.1 there.0 refl
+  joined_sound Shuffles = of_sign (join_sign Shuffles) other member there.0 there.1 refl
 
-  joined-tree : (i : Join) → row-tree (joined-row i other member) (trees t n) ≡ paired i (tree-at t other) (tree-at t member)
-  joined-tree Followed =
-      sign-tree (join-sign Followed) member other (trees t n)
-      ∙ ap₂ (pair (join-sign Followed)) (trees-below t n member there.1) (trees-below t n other there.0)
-  joined-tree Shuffled =
-      sign-tree (join-sign Shuffled) member other (trees t n)
-      ∙ ap₂ (pair (join-sign Shuffled)) (trees-below t n member there.1) (trees-below t n other there.0)
-  joined-tree Shuffles =
-      sign-tree (join-sign Shuffles) other member (trees t n)
-      ∙ ap₂ (pair (join-sign Shuffles)) (trees-below t n other there.0) (trees-below t n member there.1)
+  joined_tree : (i : Join) → row_tree (joined_row i other member) (trees t n) ≡ paired i (tree_at t other) (tree_at t member)
+  joined_tree Followed =
+      sign_tree (join_sign Followed) member other (trees t n)
+      ∙ ap₂ (pair (join_sign Followed)) (trees_below t n member there.1) (trees_below t n other there.0)
+  joined_tree Shuffled =
+      sign_tree (join_sign Shuffled) member other (trees t n)
+      ∙ ap₂ (pair (join_sign Shuffled)) (trees_below t n member there.1) (trees_below t n other there.0)
+  joined_tree Shuffles =
+      sign_tree (join_sign Shuffles) other member (trees t n)
+      ∙ ap₂ (pair (join_sign Shuffles)) (trees_below t n other there.0) (trees_below t n member there.1)
 
-  module _ {w : Row} (is : w ≡ joined-row j other member) where
-    pub lift-sound : Sound n w
-    lift-sound = subst (Sound n) (sym is) (joined-sound j)
+  module _ {w : Row} (is : w ≡ joined_row j other member) where
+    pub lift_sound : Sound n w
+    lift_sound = subst (Sound n) (sym is) (joined_sound j)
 
-    pub lift-pair : {t' : Table} {r : Interned} → (other ≡ 0 → ⊥) → (member ≡ 0 → ⊥) → Interns t n room (row-tree w (trees t n)) r t'
-        → Interns t n room (beside j (tree-at t other) (tree-at t member)) r t'
-    lift-pair {t'} {r} d c h =
+    pub lift_pair : {t' : Table} {r : Interned} → (other ≡ 0 → ⊥) → (member ≡ 0 → ⊥) → Interns t n room (row_tree w (trees t n)) r t'
+        → Interns t n room (beside j (tree_at t other) (tree_at t member)) r t'
+    lift_pair {t'} {r} d c h =
         subst (λ e. Interns t n room e r t')
-        (ap (λ v. row-tree v (trees t n)) is ∙ joined-tree j
-        ∙ sym (beside-pair j (tree-at t other) (tree-at t member) (not-ε f.rows there.0 d) (not-ε f.rows there.1 c)))
+        (ap (λ v. row_tree v (trees t n)) is ∙ joined_tree j
+        ∙ sym (beside_pair j (tree_at t other) (tree_at t member) (not_ε f.rows there.0 d) (not_ε f.rows there.1 c)))
         h

@@ -13,28 +13,28 @@ use Rattle.theory.specs.Kind
 use Rattle.theory.specs.Expression.{Expression, same, ε, letter}
 use Rattle.theory.specs.Distinct.{Within, distinct}
 use Rattle.theory.specs.Derivative.{derivative}
-use Rattle.theory.specs.Table.{Table, Row, row, tree-at}
-use Rattle.theory.proofs.Derivative.{gathered, derivative-gathered}
+use Rattle.theory.specs.Table.{Table, Row, row, tree_at}
+use Rattle.theory.proofs.Derivative.{gathered, derivative_gathered}
 use Rattle.theory.proofs.Distinct.{distinct_of, to_distinct}
-use Rattle.theory.proofs.Rooted.{rooted, letter-rooted}
+use Rattle.theory.proofs.Rooted.{rooted, letter_rooted}
 use Rattle.derive.specs.declared.sides.Join.{Join}
 use Rattle.derive.specs.declared.sides.Side.{Side}
 use Rattle.derive.specs.declared.sides.Side.TheVariants.{Nothing, Of}
 use Rattle.derive.specs.declared.sides.Lowered.{Lowered}
 use Rattle.derive.specs.declared.sides.Lowered.TheVariants.{Member, Outside}
 use Rattle.derive.specs.Rows.{Rows}
-use Rattle.derive.specs.Sides.{Within-row, beside, side-list, left-side, right_side, lowered}
+use Rattle.derive.specs.Sides.{WithinRow, beside, side_list, left_side, right_side, lowered}
 use Rattle.derive.specs.Walk.{Tells}
-use Rattle.derive.proofs.Growing.{rows-differ}
-use Rattle.derive.proofs.Joining.{beside-tells}
+use Rattle.derive.proofs.Growing.{rows_differ}
+use Rattle.derive.proofs.Joining.{beside_tells}
 use Rattle.derive.proofs.Lowering.{Lowers, lowers}
-use Rattle.derive.proofs.Siding.{derivative-sides, left-side-within, right-side-within}
+use Rattle.derive.proofs.Siding.{derivative_sides, left_side_within, right_side_within}
 
-pub told-yes : {b : Bool} (P : Type 0) → b ≡ true → Tells b P → P
-told-yes P e h = subst (λ b. Tells b P) e h
+pub told_yes : {b : Bool} (P : Type 0) → b ≡ true → Tells b P → P
+told_yes P e h = subst (λ b. Tells b P) e h
 
-pub told-no : {b : Bool} (P : Type 0) → b ≡ false → Tells b P → P → ⊥
-told-no P e h = subst (λ b. Tells b P) e h
+pub told_no : {b : Bool} (P : Type 0) → b ≡ false → Tells b P → P → ⊥
+told_no P e h = subst (λ b. Tells b P) e h
 
 -- ---- A letter's row
 
@@ -46,29 +46,29 @@ pub record Lettered (t : Table) (n i : ℕ) (w : Row) : Type 0 where
   pub kind : w.kind ≡ Kind.letter
 
 module _ {t : Table} {n i : ℕ} {w : Row} (k : Lettered t n i w) (a : ℕ) where
-  letter-tree : tree-at t i ≡ letter w.left
-  letter-tree =
-      letter-rooted (rooted t i (k.rows.sound i k.within)) (sym (ap (λ (v : Row). v.kind) k.is) ∙ k.kind)
+  letter_tree : tree_at t i ≡ letter w.left
+  letter_tree =
+      letter_rooted (rooted t i (k.rows.sound i k.within)) (sym (ap (λ (v : Row). v.kind) k.is) ∙ k.kind)
       ∙ ap (λ (v : Row). letter v.left) (sym k.is)
 
   -- The list is the literal empty word where the letters are the same.
-  pub letter-list : (b : Bool) → eqb w.left a ≡ b → derivative a (tree-at t i) ≡ cond b (ε ∷ []) []
+  pub letter_list : (b : Bool) → eqb w.left a ≡ b → derivative a (tree_at t i) ≡ cond b (ε ∷ []) []
   unfolding gathered distinct
-  letter-list true e =
-      ap (derivative a) letter-tree ∙ derivative-gathered a (letter w.left) ∙ simp (eq-eqb a w.left (sym (eqb-true w.left a e)))
-  letter-list false e =
-      ap (derivative a) letter-tree ∙ derivative-gathered a (letter w.left) ∙ simp (ne_eqb a w.left (λ q. eqb-false w.left a e (sym q)))
+  letter_list true e =
+      ap (derivative a) letter_tree ∙ derivative_gathered a (letter w.left) ∙ simp (eq-eqb a w.left (sym (eqb-true w.left a e)))
+  letter_list false e =
+      ap (derivative a) letter_tree ∙ derivative_gathered a (letter w.left) ∙ simp (ne_eqb a w.left (λ q. eqb-false w.left a e (sym q)))
 
-  pub letter-tells : {m : ℕ} → m < n → Tells (eqb w.left a && eqb m 0) (Memᴰ (tree-at t m) (derivative a (tree-at t i)))
-  letter-tells {m} lm = go (eqb w.left a) refl (eqb m 0) refl
+  pub letter_tells : {m : ℕ} → m < n → Tells (eqb w.left a && eqb m 0) (Memᴰ (tree_at t m) (derivative a (tree_at t i)))
+  letter_tells {m} lm = go (eqb w.left a) refl (eqb m 0) refl
     where
-      go : (b : Bool) → eqb w.left a ≡ b → (d : Bool) → eqb m 0 ≡ d → Tells (b && d) (Memᴰ (tree-at t m) (derivative a (tree-at t i)))
-      go false e d f = λ v. Memᴰ.not-nil (subst (Memᴰ (tree-at t m)) (letter-list false e) v)
+      go : (b : Bool) → eqb w.left a ≡ b → (d : Bool) → eqb m 0 ≡ d → Tells (b && d) (Memᴰ (tree_at t m) (derivative a (tree_at t i)))
+      go false e d f = λ v. Memᴰ.not-nil (subst (Memᴰ (tree_at t m)) (letter_list false e) v)
       go true e true f =
-          subst (Memᴰ (tree-at t m)) (sym (letter-list true e)) (Memᴰ.head (ap (tree-at t) (eqb-true m 0 f) ∙ k.rows.literal))
+          subst (Memᴰ (tree_at t m)) (sym (letter_list true e)) (Memᴰ.head (ap (tree_at t) (eqb-true m 0 f) ∙ k.rows.literal))
       go true e false f = λ v.
-          let only = Memᴰ.eq_of_singleton (subst (Memᴰ (tree-at t m)) (letter-list true e) v) in
-          eqb-false m 0 f (rows-differ k.rows lm k.rows.nonempty (only ∙ sym k.rows.literal))
+          let only = Memᴰ.eq_of_singleton (subst (Memᴰ (tree_at t m)) (letter_list true e) v) in
+          eqb-false m 0 f (rows_differ k.rows lm k.rows.nonempty (only ∙ sym k.rows.literal))
 
 -- ---- A row with two sides
 
@@ -77,101 +77,101 @@ abbrev pub weight : Side → ℕ
 weight Nothing = 0
 weight (Of child other join) = suc child
 
-weight-within : (n i : ℕ) (side : Side) → Within-row n i side → weight side ≤ i
-weight-within n i Nothing h = omega arith
-weight-within n i (Of child other join) h = h.0
+weight_within : (n i : ℕ) (side : Side) → WithinRow n i side → weight side ≤ i
+weight_within n i Nothing h = omega arith
+weight_within n i (Of child other join) h = h.0
 
-within_more : (n i : ℕ) (side : Side) → i < n → Within-row n i side → Within-row n n side
+within_more : (n i : ℕ) (side : Side) → i < n → WithinRow n i side → WithinRow n n side
 within_more n i Nothing l h = tt
 within_more n i (Of child other join) l h = (le_trans h.0 (le_of_lt l), h.1)
 
 -- Row i of n is no letter, and x and y are its sides.
-pub record Two-sides (t : Table) (n i : ℕ) (x y : Side) : Type 0 where
+pub record TwoSides (t : Table) (n i : ℕ) (x y : Side) : Type 0 where
   pub rows : Rows t n
   pub within : i < n
-  pub no-letter : (row t i).kind ≡ Kind.letter → ⊥
-  pub left : x ≡ left-side t i
+  pub no_letter : (row t i).kind ≡ Kind.letter → ⊥
+  pub left : x ≡ left_side t i
   pub right : y ≡ right_side t i
 
-module _ {t : Table} {n i : ℕ} {x y : Side} (k : Two-sides t n i x y) where
-  left-row : Within-row n i x
-  left-row = subst (Within-row n i) (sym k.left) (left-side-within k.rows k.within)
+module _ {t : Table} {n i : ℕ} {x y : Side} (k : TwoSides t n i x y) where
+  left_row : WithinRow n i x
+  left_row = subst (WithinRow n i) (sym k.left) (left_side_within k.rows k.within)
 
-  right-row : Within-row n i y
-  right-row = subst (Within-row n i) (sym k.right) (right-side-within k.rows k.within)
+  right_row : WithinRow n i y
+  right_row = subst (WithinRow n i) (sym k.right) (right_side_within k.rows k.within)
 
-  pub left-within : Within-row n n x
-  left-within = within_more n i x k.within left-row
+  pub left_within : WithinRow n n x
+  left_within = within_more n i x k.within left_row
 
-  pub right-within : Within-row n n y
-  right-within = within_more n i y k.within right-row
+  pub right_within : WithinRow n n y
+  right_within = within_more n i y k.within right_row
 
   pub left_less : weight x ≤ i
-  left_less = weight-within n i x left-row
+  left_less = weight_within n i x left_row
 
-  pub right-less : weight y ≤ i
-  right-less = weight-within n i y right-row
+  pub right_less : weight y ≤ i
+  right_less = weight_within n i y right_row
 
   module _ (a : ℕ) where
-    pub lists : derivative a (tree-at t i) ≡ distinct same (side-list a t x ++ side-list a t y)
+    pub lists : derivative a (tree_at t i) ≡ distinct same (side_list a t x ++ side_list a t y)
     lists =
-        derivative-sides k.rows a i k.within k.no-letter
-        ∙ ap₂ (λ b c. distinct same (side-list a t b ++ side-list a t c)) (sym k.left) (sym k.right)
+        derivative_sides k.rows a i k.within k.no_letter
+        ∙ ap₂ (λ b c. distinct same (side_list a t b ++ side_list a t c)) (sym k.left) (sym k.right)
 
-    pub left-has : Within (side-list a t x) (derivative a (tree-at t i))
-    left-has z m = subst (Memᴰ z) (sym lists) (to_distinct same _ z (Memᴰ.append_left _ m))
+    pub left_has : Within (side_list a t x) (derivative a (tree_at t i))
+    left_has z m = subst (Memᴰ z) (sym lists) (to_distinct same _ z (Memᴰ.append_left _ m))
 
-    pub right-has : Within (side-list a t y) (derivative a (tree-at t i))
-    right-has z m = subst (Memᴰ z) (sym lists) (to_distinct same _ z (Memᴰ.append_right (side-list a t x) m))
+    pub right_has : Within (side_list a t y) (derivative a (tree_at t i))
+    right_has z m = subst (Memᴰ z) (sym lists) (to_distinct same _ z (Memᴰ.append_right (side_list a t x) m))
 
-    pub sides-have : (z : Expression) → Memᴰ z (derivative a (tree-at t i)) → Memᴰ z (side-list a t x) ⊎ Memᴰ z (side-list a t y)
-    sides-have z m = Memᴰ.append_cases (side-list a t x) (distinct_of same _ z (subst (Memᴰ z) lists m))
+    pub sides_have : (z : Expression) → Memᴰ z (derivative a (tree_at t i)) → Memᴰ z (side_list a t x) ⊎ Memᴰ z (side_list a t y)
+    sides_have z m = Memᴰ.append_cases (side_list a t x) (distinct_of same _ z (subst (Memᴰ z) lists m))
 
     -- What the right side tells, where the left has nothing.
-    pub right-tells : (z : Expression) (b : Bool) → (Memᴰ z (side-list a t x) → ⊥) → Tells b (Memᴰ z (side-list a t y))
-        → Tells b (Memᴰ z (derivative a (tree-at t i)))
-    right-tells z true d m = right-has z m
-    right-tells z false d m = λ v. ⊎_elim d m (sides-have z v)
+    pub right_tells : (z : Expression) (b : Bool) → (Memᴰ z (side_list a t x) → ⊥) → Tells b (Memᴰ z (side_list a t y))
+        → Tells b (Memᴰ z (derivative a (tree_at t i)))
+    right_tells z true d m = right_has z m
+    right_tells z false d m = λ v. ⊎_elim d m (sides_have z v)
 
 -- ---- A side
 
-pub nothing_tells : (a : ℕ) (t : Table) {side : Side} {z : Expression} → side ≡ Nothing → Memᴰ z (side-list a t side) → ⊥
-nothing_tells a t {z = z} e m = Memᴰ.not-nil (subst (λ s. Memᴰ z (side-list a t s)) e m)
+pub nothing_tells : (a : ℕ) (t : Table) {side : Side} {z : Expression} → side ≡ Nothing → Memᴰ z (side_list a t side) → ⊥
+nothing_tells a t {z = z} e m = Memᴰ.not-nil (subst (λ s. Memᴰ z (side_list a t s)) e m)
 
 -- The side is that of a child and a join, and row p is lowered as the code has done it.
 pub record Lower (t : Table) (n : ℕ) (side : Side) (child other : ℕ) (join : Join) (p : ℕ) (r : Lowered) : Type 0 where
   pub rows : Rows t n
   pub is : side ≡ Of child other join
-  pub within : Within-row n n side
+  pub within : WithinRow n n side
   pub place : p < n
   pub lowered_is : r ≡ lowered t other join p
 
 module _ {t : Table} {n : ℕ} {side : Side} {child other : ℕ} {join : Join} {p : ℕ} {r : Lowered} (k : Lower t n side child other join p r) where
-  pub child-within : child < n
-  child-within = (subst (Within-row n n) k.is k.within).0
+  pub child_within : child < n
+  child_within = (subst (WithinRow n n) k.is k.within).0
 
-  lower-well : Lowers t n other join p r
-  lower-well = subst (Lowers t n other join p) (sym k.lowered_is) (lowers k.rows k.place (subst (Within-row n n) k.is k.within).1 join)
+  lower_well : Lowers t n other join p r
+  lower_well = subst (Lowers t n other join p) (sym k.lowered_is) (lowers k.rows k.place (subst (WithinRow n n) k.is k.within).1 join)
 
-  pub outside-tells : (a : ℕ) → r ≡ Outside → Memᴰ (tree-at t p) (side-list a t side) → ⊥
-  outside-tells a o m =
-      let i = Memᴰ.of_map _ (derivative a (tree-at t child)) (subst (λ s. Memᴰ (tree-at t p) (side-list a t s)) k.is m) in
-      (subst (Lowers t n other join p) o lower-well) i.0 i.2
+  pub outside_tells : (a : ℕ) → r ≡ Outside → Memᴰ (tree_at t p) (side_list a t side) → ⊥
+  outside_tells a o m =
+      let i = Memᴰ.of_map _ (derivative a (tree_at t child)) (subst (λ s. Memᴰ (tree_at t p) (side_list a t s)) k.is m) in
+      (subst (Lowers t n other join p) o lower_well) i.0 i.2
 
   module _ {m : ℕ} (o : r ≡ Member m) where
     member_is : Lowers t n other join p (Member m)
-    member_is = subst (Lowers t n other join p) o lower-well
+    member_is = subst (Lowers t n other join p) o lower_well
 
-    pub member-within : m < n
-    member-within = member_is.0
+    pub member_within : m < n
+    member_within = member_is.0
 
-    pub member-tells : (a : ℕ) (b : Bool) → Tells b (Memᴰ (tree-at t m) (derivative a (tree-at t child)))
-        → Tells b (Memᴰ (tree-at t p) (side-list a t side))
-    member-tells a b h = subst (λ s. Tells b (Memᴰ (tree-at t p) (side-list a t s))) (sym k.is) (go b h)
+    pub member_tells : (a : ℕ) (b : Bool) → Tells b (Memᴰ (tree_at t m) (derivative a (tree_at t child)))
+        → Tells b (Memᴰ (tree_at t p) (side_list a t side))
+    member_tells a b h = subst (λ s. Tells b (Memᴰ (tree_at t p) (side_list a t s))) (sym k.is) (go b h)
       where
-        go : (b : Bool) → Tells b (Memᴰ (tree-at t m) (derivative a (tree-at t child)))
-            → Tells b (Memᴰ (tree-at t p) (map (beside join (tree-at t other)) (derivative a (tree-at t child))))
+        go : (b : Bool) → Tells b (Memᴰ (tree_at t m) (derivative a (tree_at t child)))
+            → Tells b (Memᴰ (tree_at t p) (map (beside join (tree_at t other)) (derivative a (tree_at t child))))
         go true z = Memᴰ.cast (sym member_is.1) (Memᴰ.map _ z)
         go false z = λ y.
-            let i = Memᴰ.of_map _ (derivative a (tree-at t child)) y in
-            z (Memᴰ.cast (beside-tells join (tree-at t other) _ _ (member_is.1 ∙ sym i.2)) i.1)
+            let i = Memᴰ.of_map _ (derivative a (tree_at t child)) y in
+            z (Memᴰ.cast (beside_tells join (tree_at t other) _ _ (member_is.1 ∙ sym i.2)) i.1)

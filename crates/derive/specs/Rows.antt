@@ -3,33 +3,33 @@
 use Rattle.std.specs.Prelude.{ℕ, suc, ◌≤◌, ◌<◌, ◌≡◌, ◌⊎◌, length}
 use mathlib.Core.List.{Memᴰ}
 use Rattle.theory.specs.Kind
-use Rattle.theory.specs.Limit.{most-expressions}
+use Rattle.theory.specs.Limit.{most_expressions}
 use Rattle.theory.specs.Expression.{Expression, ε, parts}
 use Rattle.theory.specs.Distinct.{NoRepeats}
-use Rattle.theory.specs.Table.{Table, Row, row, entry, Sound, trees, tree-at}
+use Rattle.theory.specs.Table.{Table, Row, row, entry, Sound, trees, tree_at}
 use Rattle.derive.specs.declared.rows.Interned.{Interned}
 use Rattle.derive.specs.declared.rows.Interned.TheVariants.{At, Full}
 
 pub record Rows (t : Table) (n : ℕ) : Type 0 where
-  pub left-length : length t.left ≡ length t.kind
-  pub right-length : length t.right ≡ length t.kind
+  pub left_length : length t.left ≡ length t.kind
+  pub right_length : length t.right ≡ length t.kind
   pub within : n ≤ length t.kind
   pub sound : (i : ℕ) → i < n → Sound i (row t i)
   pub once : NoRepeats (trees t n)
   pub nonempty : 0 < n
-  pub literal : tree-at t 0 ≡ ε
-  pub blank : (i : ℕ) → n ≤ i → row t i ≡ entry Kind.empty-language 0 0
+  pub literal : tree_at t 0 ≡ ε
+  pub blank : (i : ℕ) → n ≤ i → row t i ≡ entry Kind.empty_language 0 0
 
 -- The rows fit the room, and the room fits the columns and what a 16-bit number can name.
 pub record Fitted (t : Table) (n room : ℕ) : Type 0 where
   pub rows : Rows t n
   pub fits : n ≤ room
-  pub in-columns : room ≤ length t.kind
-  pub small : room ≤ most-expressions
+  pub in_columns : room ≤ length t.kind
+  pub small : room ≤ most_expressions
 
 -- Rows 0 to i stand in the columns, each as 01's table of kinds has it.
 pub record SoundTo (t : Table) (i : ℕ) : Type 0 where
-  pub in-kind : i < length t.kind
+  pub in_kind : i < length t.kind
   pub in_left : i < length t.left
   pub in_right : i < length t.right
   pub sound : (j : ℕ) → j < suc i → Sound j (row t j)
@@ -58,7 +58,7 @@ pub record Came (t : Table) (n room : ℕ) (Need : Expression → Type 0) (t' : 
 pub record Held (t : Table) (n room : ℕ) (Need Is : Expression → Type 0) (i : ℕ) (t' : Table) (n' : ℕ) : Type 0 where
   pub came : Came t n room Need t' n'
   pub there : i < n'
-  pub is : Is (tree-at t' i)
+  pub is : Is (tree_at t' i)
 
 -- The room is used up to its last row, and a tree is needed that no row has.
 pub record Short (t : Table) (n room : ℕ) (Need : Expression → Type 0) (t' : Table) : Type 0 where

@@ -5,7 +5,7 @@ use mathlib.Core.List.{List, [], ◌∷◌, Memᴰ}
 use Rattle.theory.specs.Expression.{Expression, same, parts}
 use Rattle.theory.specs.Distinct.{beyond}
 use Rattle.theory.specs.Derivative.{derivative}
-use Rattle.theory.specs.Table.{Table, tree-at}
+use Rattle.theory.specs.Table.{Table, tree_at}
 use Rattle.derive.specs.declared.rows.Interned.{Interned}
 use Rattle.derive.specs.declared.rows.Interned.TheVariants.{At, Full}
 use Rattle.derive.specs.declared.sides.Join.{Join}
@@ -17,7 +17,7 @@ use Rattle.derive.specs.declared.walk.Place.TheVariants.{Start, Behind}
 use Rattle.derive.specs.declared.walk.Stepped.{Stepped}
 use Rattle.derive.specs.declared.walk.Stepped.TheVariants.{Found, End, NoRoom}
 use Rattle.derive.specs.Rows.{Rows, SoundTo, Came, Held, Short}
-use Rattle.derive.specs.Sides.{side-list, lowered, Within-row}
+use Rattle.derive.specs.Sides.{side_list, lowered, WithinRow}
 
 -- A test says whether P holds.
 abbrev pub Tells : Bool → Type 0 → Type 0
@@ -41,58 +41,58 @@ first_of (x ∷ xs) = some x
 -- ---- Places
 
 -- The members still to come.
-abbrev pub to-come : Table → Place → List Expression → List Expression
-to-come t Start ms = ms
-to-come t (Behind p) ms = behind (tree-at t p) ms
+abbrev pub to_come : Table → Place → List Expression → List Expression
+to_come t Start ms = ms
+to_come t (Behind p) ms = behind (tree_at t p) ms
 
 -- A place in a list: its start, or one of its members, as a row.
-abbrev pub In-list : Table → ℕ → Place → List Expression → Type 0
-In-list t n Start ms = Unit {0}
-In-list t n (Behind p) ms = (p < n) × Memᴰ (tree-at t p) ms
+abbrev pub InList : Table → ℕ → Place → List Expression → Type 0
+InList t n Start ms = Unit {0}
+InList t n (Behind p) ms = (p < n) × Memᴰ (tree_at t p) ms
 
 -- The walk of the list ms goes on from a place: its start, or one of its members.
 abbrev pub Stands : Table → Place → List Expression → Type 0
 Stands t Start ms = Unit {0}
-Stands t (Behind p) ms = Memᴰ (tree-at t p) ms
+Stands t (Behind p) ms = Memᴰ (tree_at t p) ms
 
 -- The place in the child's list that the join takes to a place in the side's list.
-abbrev pub behind-lowered : Lowered → Place
-behind-lowered (Member m) = Behind m
-behind-lowered Outside = Start
+abbrev pub behind_lowered : Lowered → Place
+behind_lowered (Member m) = Behind m
+behind_lowered Outside = Start
 
-abbrev pub lowered-place : Table → ℕ → Join → Place → Place
-lowered-place t other join Start = Start
-lowered-place t other join (Behind p) = behind-lowered (lowered t other join p)
+abbrev pub lowered_place : Table → ℕ → Join → Place → Place
+lowered_place t other join Start = Start
+lowered_place t other join (Behind p) = behind_lowered (lowered t other join p)
 
 -- ---- A step
 
 -- A tree that the walk of the list ms may need: a part of one of its members.
-abbrev pub Part-of : List Expression → Expression → Type 0
-Part-of ms z = (m : Expression) × Memᴰ m ms × Memᴰ z (parts m)
+abbrev pub PartOf : List Expression → Expression → Type 0
+PartOf ms z = (m : Expression) × Memᴰ m ms × Memᴰ z (parts m)
 
 -- The list is at its end.
 pub record Ended (t : Table) (n room : ℕ) (ms xs : List Expression) (t' : Table) (n' : ℕ) : Type 0 where
-  pub came : Came t n room (Part-of ms) t' n'
+  pub came : Came t n room (PartOf ms) t' n'
   pub nothing_left : first_of xs ≡ none
 
 -- What a step gives where xs are the members to come of the list ms: the first of xs, as a row, or the end.
 abbrev pub Outcome : Table → ℕ → ℕ → List Expression → List Expression → Stepped → Table → Type 0
-Outcome t n room ms xs (Found i n') t' = Held t n room (Part-of ms) (λ z. first_of xs ≡ some z) i t' n'
+Outcome t n room ms xs (Found i n') t' = Held t n room (PartOf ms) (λ z. first_of xs ≡ some z) i t' n'
 Outcome t n room ms xs (End n') t' = Ended t n room ms xs t' n'
-Outcome t n room ms xs NoRoom t' = Short t n room (Part-of ms) t'
+Outcome t n room ms xs NoRoom t' = Short t n room (PartOf ms) t'
 
 pub record Gives (t : Table) (n room : ℕ) (ms xs : List Expression) (r : Stepped) (t' : Table) : Type 0 where
   pub outcome : Outcome t n room ms xs r t'
 
 -- A step along the list ms from a place in it.
 abbrev pub Steps : Table → ℕ → ℕ → List Expression → Place → Stepped → Table → Type 0
-Steps t n room ms p = Gives t n room ms (to-come t p ms)
+Steps t n room ms p = Gives t n room ms (to_come t p ms)
 
 -- A step along a letter's list: the literal empty word, row 0, where the letter is the one asked for, and then the end.
-abbrev pub letter-step : Bool → Place → ℕ → Stepped
-letter-step true Start used = Found 0 used
-letter-step true (Behind p) used = End used
-letter-step false p used = End used
+abbrev pub letter_step : Bool → Place → ℕ → Stepped
+letter_step true Start used = Found 0 used
+letter_step true (Behind p) used = End used
+letter_step false p used = End used
 
 -- The step of a member that was found or added.
 abbrev pub reached : Interned → Stepped
@@ -102,51 +102,51 @@ reached Full = NoRoom
 -- ---- The same over the rows of a table
 
 -- Rows of a table that holds each tree once: a row and a member; a side's rows and a member; a side's rows and a place.
-pub record Row-among (t : Table) (i m : ℕ) : Type 0 where
+pub record RowAmong (t : Table) (i m : ℕ) : Type 0 where
   pub count : ℕ
   pub rows : Rows t count
   pub row_in : i < count
-  pub member-in : m < count
+  pub member_in : m < count
 
-pub record Side-among (t : Table) (side : Side) (m : ℕ) : Type 0 where
+pub record SideAmong (t : Table) (side : Side) (m : ℕ) : Type 0 where
   pub count : ℕ
   pub rows : Rows t count
-  pub side-in : Within-row count count side
-  pub member-in : m < count
+  pub side_in : WithinRow count count side
+  pub member_in : m < count
 
-abbrev pub Place-among : Table → Side → Place → Type 0
-Place-among t side Start = Unit {0}
-Place-among t side (Behind p) = Side-among t side p
+abbrev pub PlaceAmong : Table → Side → Place → Type 0
+PlaceAmong t side Start = Unit {0}
+PlaceAmong t side (Behind p) = SideAmong t side p
 
 -- The row of a place stands in the columns.
-abbrev pub Place-within : Table → Place → Type 0
-Place-within t Start = Unit {0}
-Place-within t (Behind p) = SoundTo t p
+abbrev pub PlaceWithin : Table → Place → Type 0
+PlaceWithin t Start = Unit {0}
+PlaceWithin t (Behind p) = SoundTo t p
 
 -- Whether row m's tree is a member of row i's list, or of a side's.
-abbrev pub Row-has : Table → ℕ → ℕ → ℕ → Bool → Type 0
-Row-has t a i m r = Tells r (Memᴰ (tree-at t m) (derivative a (tree-at t i)))
+abbrev pub RowHas : Table → ℕ → ℕ → ℕ → Bool → Type 0
+RowHas t a i m r = Tells r (Memᴰ (tree_at t m) (derivative a (tree_at t i)))
 
-abbrev pub Side-has : Table → ℕ → Side → ℕ → Bool → Type 0
-Side-has t a side m r = Tells r (Memᴰ (tree-at t m) (side-list a t side))
+abbrev pub SideHas : Table → ℕ → Side → ℕ → Bool → Type 0
+SideHas t a side m r = Tells r (Memᴰ (tree_at t m) (side_list a t side))
 
 -- Whether the walk of a side's list goes on from a place.
-abbrev pub Side-stands : Table → ℕ → Side → Place → Bool → Type 0
-Side-stands t a side p r = Tells r (Stands t p (side-list a t side))
+abbrev pub SideStands : Table → ℕ → Side → Place → Bool → Type 0
+SideStands t a side p r = Tells r (Stands t p (side_list a t side))
 
 -- A place in row i's list, or in a side's.
-abbrev pub Row-place : Table → ℕ → ℕ → ℕ → Place → Type 0
-Row-place t n a i p = In-list t n p (derivative a (tree-at t i))
+abbrev pub RowPlace : Table → ℕ → ℕ → ℕ → Place → Type 0
+RowPlace t n a i p = InList t n p (derivative a (tree_at t i))
 
-abbrev pub Side-place : Table → ℕ → ℕ → Side → Place → Type 0
-Side-place t n a side p = In-list t n p (side-list a t side)
+abbrev pub SidePlace : Table → ℕ → ℕ → Side → Place → Type 0
+SidePlace t n a side p = InList t n p (side_list a t side)
 
 -- A step along row i's list, along a side's, and along what the side y has beyond the side x.
-abbrev pub Row-steps : Table → ℕ → ℕ → ℕ → ℕ → Place → Stepped → Table → Type 0
-Row-steps t n room a i p = Steps t n room (derivative a (tree-at t i)) p
+abbrev pub RowSteps : Table → ℕ → ℕ → ℕ → ℕ → Place → Stepped → Table → Type 0
+RowSteps t n room a i p = Steps t n room (derivative a (tree_at t i)) p
 
-abbrev pub Side-steps : Table → ℕ → ℕ → ℕ → Side → Place → Stepped → Table → Type 0
-Side-steps t n room a side p = Steps t n room (side-list a t side) p
+abbrev pub SideSteps : Table → ℕ → ℕ → ℕ → Side → Place → Stepped → Table → Type 0
+SideSteps t n room a side p = Steps t n room (side_list a t side) p
 
-abbrev pub Fresh-steps : Table → ℕ → ℕ → ℕ → Side → Side → Place → Stepped → Table → Type 0
-Fresh-steps t n room a x y p = Gives t n room (side-list a t y) (beyond same (side-list a t x) (to-come t p (side-list a t y)))
+abbrev pub FreshSteps : Table → ℕ → ℕ → ℕ → Side → Side → Place → Stepped → Table → Type 0
+FreshSteps t n room a x y p = Gives t n room (side_list a t y) (beyond same (side_list a t x) (to_come t p (side_list a t y)))

@@ -1,8 +1,8 @@
 // A row found or added among the rows of the expression columns.
 
 ghost use Rattle.std.specs.Prelude.{◌≡◌, ℕ, ◌≤◌, length};
-ghost use Rattle.theory.specs.Limit.{most-expressions};
-ghost use Rattle.theory.specs.Table.{table, entry, Sound, trees, row-tree};
+ghost use Rattle.theory.specs.Limit.{most_expressions};
+ghost use Rattle.theory.specs.Table.{table, entry, Sound, trees, row_tree};
 ghost use Rattle.columns.specs.Row.{as_row};
 ghost use Rattle.derive.specs.Rows.{Fitted, FirstRow, Interns};
 
@@ -47,7 +47,7 @@ pub fn intern(
     requires fitted { Fitted (table kind.old left.old right.old) used room }
     requires sound { Sound used (as_row w) }
     ensures { Interns (table kind.old left.old right.old) used room
-        (row-tree (as_row w) (trees (table kind.old left.old right.old) used)) result
+        (row_tree (as_row w) (trees (table kind.old left.old right.old) used)) result
         (table kind.new left.new right.new) }
 {
     let row = find(kind, left, right, used, search_start(w), w);
@@ -68,7 +68,7 @@ pub fn intern(
 
 // A sign's row over the rows x and y. Whatever makes one makes it here.
 pub fn pair(sign: u8, x: usize, y: usize) -> Row
-    requires { (x ≤ most-expressions) × (y ≤ most-expressions) }
+    requires { (x ≤ most_expressions) × (y ≤ most_expressions) }
     ensures { as_row result ≡ entry sign x y }
 {
     Row {

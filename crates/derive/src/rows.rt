@@ -1,8 +1,8 @@
 // The rows of the expression columns: each tree once, each child before its parent, row 0 the literal empty word.
 
 ghost use Rattle.std.specs.Prelude.{◌≡◌};
-ghost use Rattle.theory.specs.Derivative.{empty-word};
-ghost use Rattle.theory.specs.Table.{table, tree-at};
+ghost use Rattle.theory.specs.Derivative.{empty_word};
+ghost use Rattle.theory.specs.Table.{table, tree_at};
 ghost use Rattle.derive.specs.Rows.{Fitted, SoundTo, Takes};
 
 use columns::{Children, Row};
@@ -18,7 +18,7 @@ pub enum Interned {
 // 01: "the answer for the empty word follows from an entry's children down to the leaves".
 pub fn empty_word(kind: &[u8], left: &[u16], right: &[u16], row: usize) -> bool
     requires { SoundTo (table kind.now left.now right.now) row }
-    ensures { result ≡ empty-word (tree-at (table kind.now left.now right.now) row) }
+    ensures { result ≡ empty_word (tree_at (table kind.now left.now right.now) row) }
 {
     let w = columns::row_at(kind, left, right, row);
     match w.children() {
@@ -47,7 +47,7 @@ pub fn take_over(
     requires sound_to { SoundTo (table gkind.now gleft.now gright.now) e }
     requires fitted { Fitted (table kind.old left.old right.old) used room }
     ensures { Takes (table kind.old left.old right.old) used room
-        (tree-at (table gkind.now gleft.now gright.now) e) result
+        (tree_at (table gkind.now gleft.now gright.now) e) result
         (table kind.new left.new right.new) }
 {
     let w = columns::row_at(gkind, gleft, gright, e);

@@ -1,11 +1,11 @@
 // The two sides of a row's derivative, the join of a member with the side's other tree, and that join undone.
 
 ghost use Rattle.std.specs.Prelude.{◌≡◌, ◌≤◌, ◌<◌, not, ◌&&◌, eqb};
-ghost use Rattle.theory.specs.Limit.{most-expressions};
-ghost use Rattle.theory.specs.Table.{table, tree-at, entry, kind-of-sign};
+ghost use Rattle.theory.specs.Limit.{most_expressions};
+ghost use Rattle.theory.specs.Table.{table, tree_at, entry, kind_of_sign};
 ghost use Rattle.columns.specs.Row.{as_row};
 ghost use Rattle.derive.specs.Rows.{Fitted, SoundTo, Interns};
-ghost use Rattle.derive.specs.Sides.{join-sign, arranged, beside, left-side, right_side, choose, parted, lowered};
+ghost use Rattle.derive.specs.Sides.{join_sign, arranged, beside, left_side, right_side, choose, parted, lowered};
 
 use super::intern::{intern, pair};
 use super::rows::Interned;
@@ -39,7 +39,7 @@ pub enum Lowered {
 
 pub fn left_side(kind: &[u8], left: &[u16], right: &[u16], row: usize) -> Side
     requires { SoundTo (table kind.now left.now right.now) row }
-    ensures { result ≡ left-side (table kind.now left.now right.now) row }
+    ensures { result ≡ left_side (table kind.now left.now right.now) row }
 {
     let w = columns::row_at(kind, left, right, row);
     let k = w.kind;
@@ -106,8 +106,8 @@ pub fn right_side(kind: &[u8], left: &[u16], right: &[u16], row: usize) -> Side
 
 // The row of the join where neither tree is the literal empty word.
 fn joined(join: Join, other: usize, member: usize) -> Row
-    requires { (other ≤ most-expressions) × (member ≤ most-expressions) }
-    ensures { as_row result ≡ arranged join (entry (kind-of-sign (join-sign join))) member other }
+    requires { (other ≤ most_expressions) × (member ≤ most_expressions) }
+    ensures { as_row result ≡ arranged join (entry (kind_of_sign (join_sign join))) member other }
 {
     match join {
         Join::Followed => pair(kind::CONCATENATION, member, other),
@@ -130,8 +130,8 @@ pub fn lift(
     requires fitted { Fitted (table kind.old left.old right.old) used room }
     requires other_lt_used { (other < used) × (member < used) }
     ensures { Interns (table kind.old left.old right.old) used room
-        (beside join (tree-at (table kind.old left.old right.old) other)
-        (tree-at (table kind.old left.old right.old) member)) result
+        (beside join (tree_at (table kind.old left.old right.old) other)
+        (tree_at (table kind.old left.old right.old) member)) result
         (table kind.new left.new right.new) }
 {
     if other == 0 {

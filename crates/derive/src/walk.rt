@@ -3,9 +3,9 @@
 ghost use Rattle.std.specs.Prelude.{◌≡◌, ◌<◌};
 ghost use Rattle.theory.specs.Table.{table};
 ghost use Rattle.derive.specs.Rows.{Fitted};
-ghost use Rattle.derive.specs.Sides.{Within-row};
-ghost use Rattle.derive.specs.Walk.{Row-among, Side-among, Place-among, Place-within, lowered-place, letter-step, reached};
-ghost use Rattle.derive.specs.Walk.{Row-has, Side-has, Side-stands, Row-place, Side-place, Row-steps, Side-steps, Fresh-steps};
+ghost use Rattle.derive.specs.Sides.{WithinRow};
+ghost use Rattle.derive.specs.Walk.{RowAmong, SideAmong, PlaceAmong, PlaceWithin, lowered_place, letter_step, reached};
+ghost use Rattle.derive.specs.Walk.{RowHas, SideHas, SideStands, RowPlace, SidePlace, RowSteps, SideSteps, FreshSteps};
 
 use super::rows::Interned;
 use super::sides::{Join, Lowered, Side};
@@ -29,8 +29,8 @@ pub enum Stepped {
 // two sides have.
 #[cycle(has_side_has)]
 fn has(kind: &[u8], left: &[u16], right: &[u16], letter: u8, row: usize, member: usize) -> bool
-    requires { Row-among (table kind.now left.now right.now) row member }
-    ensures { Row-has (table kind.now left.now right.now) letter row member result }
+    requires { RowAmong (table kind.now left.now right.now) row member }
+    ensures { RowHas (table kind.now left.now right.now) letter row member result }
 {
     let w = columns::row_at(kind, left, right, row);
     if w.kind == kind::LETTER {
@@ -47,8 +47,8 @@ fn has(kind: &[u8], left: &[u16], right: &[u16], letter: u8, row: usize, member:
 // A side's list is its child's, each member joined with the side's other tree.
 #[cycle(has_side_has)]
 fn side_has(kind: &[u8], left: &[u16], right: &[u16], letter: u8, side: Side, member: usize) -> bool
-    requires { Side-among (table kind.now left.now right.now) side member }
-    ensures { Side-has (table kind.now left.now right.now) letter side member result }
+    requires { SideAmong (table kind.now left.now right.now) side member }
+    ensures { SideHas (table kind.now left.now right.now) letter side member result }
 {
     let Side::Of { child, other, join } = side else {
         return false;
@@ -72,8 +72,8 @@ pub fn step(
     place: Place,
 ) -> Stepped
     requires fitted { Fitted (table kind.old left.old right.old) used room }
-    requires row_lt_used { (row < used) × Row-place (table kind.old left.old right.old) used letter row place }
-    ensures { Row-steps (table kind.old left.old right.old) used room letter row place result
+    requires row_lt_used { (row < used) × RowPlace (table kind.old left.old right.old) used letter row place }
+    ensures { RowSteps (table kind.old left.old right.old) used room letter row place result
         (table kind.new left.new right.new) }
 {
     let w = columns::row_at(kind, left, right, row);
@@ -104,7 +104,7 @@ pub fn step(
 
 // A letter's list is the literal empty word where the letter is the one asked for, and else it is empty.
 fn letter_step(met: bool, place: Place, used: usize) -> Stepped
-    ensures { result ≡ letter-step met place used }
+    ensures { result ≡ letter_step met place used }
 {
     if met {
         if let Place::Start = place {
@@ -116,8 +116,8 @@ fn letter_step(met: bool, place: Place, used: usize) -> Stepped
 
 // The start of the list and each member of the left side are walked there.
 fn place_has(kind: &[u8], left: &[u16], right: &[u16], letter: u8, side: Side, place: Place) -> bool
-    requires { Place-among (table kind.now left.now right.now) side place }
-    ensures { Side-stands (table kind.now left.now right.now) letter side place result }
+    requires { PlaceAmong (table kind.now left.now right.now) side place }
+    ensures { SideStands (table kind.now left.now right.now) letter side place result }
 {
     let Place::Behind { row } = place else {
         return true;
@@ -138,8 +138,8 @@ fn side_step(
     place: Place,
 ) -> Stepped
     requires fitted { Fitted (table kind.old left.old right.old) used room }
-    requires within_row { Within-row used used side × Side-place (table kind.old left.old right.old) used letter side place }
-    ensures { Side-steps (table kind.old left.old right.old) used room letter side place result
+    requires within_row { WithinRow used used side × SidePlace (table kind.old left.old right.old) used letter side place }
+    ensures { SideSteps (table kind.old left.old right.old) used room letter side place result
         (table kind.new left.new right.new) }
 {
     let Side::Of { child, other, join } = side else {
@@ -172,8 +172,8 @@ fn lower_place(
     join: Join,
     place: Place,
 ) -> Place
-    requires { Place-within (table kind.now left.now right.now) place }
-    ensures { result ≡ lowered-place (table kind.now left.now right.now) other join place }
+    requires { PlaceWithin (table kind.now left.now right.now) place }
+    ensures { result ≡ lowered_place (table kind.now left.now right.now) other join place }
 {
     let Place::Behind { row } = place else {
         return Place::Start;
@@ -198,9 +198,9 @@ fn fresh_step(
     place: Place,
 ) -> Stepped
     requires fitted { Fitted (table kind.old left.old right.old) used room }
-    requires within_row { Within-row used used a × Within-row used used b }
-    requires side_place { Side-place (table kind.old left.old right.old) used letter b place }
-    ensures { Fresh-steps (table kind.old left.old right.old) used room letter a b place result
+    requires within_row { WithinRow used used a × WithinRow used used b }
+    requires side_place { SidePlace (table kind.old left.old right.old) used letter b place }
+    ensures { FreshSteps (table kind.old left.old right.old) used room letter a b place result
         (table kind.new left.new right.new) }
 {
     let mut at = place;

@@ -1,6 +1,6 @@
 -- 2026-02, the display unit's host program: what the exported functions owe, over what the calls behind them owe.
 use Rattle.std.specs.Prelude.{ℕ, ◌+◌, ◌*◌, ◌≤◌, ◌<◌, ◌≡◌, List, [], ◌∷◌, length}
-use Rattle.theory.specs.Refusal.{Refusal, refusal, counts-few}
+use Rattle.theory.specs.Refusal.{Refusal, refusal, counts_few}
 use Rattle.theory.specs.Column.{zeros, filled}
 use Rattle.theory.specs.Table.{Table}
 use Rattle.theory.specs.Grammar.{Text}
@@ -16,16 +16,16 @@ abbrev pub packed : Refusal → ℕ
 packed r = r.number * 4294967296 + r.place
 
 -- "that slice has fewer than 4 numbers"
-abbrev pub fewest-counts : ℕ
-fewest-counts = 4
+abbrev pub fewest_counts : ℕ
+fewest_counts = 4
 
 -- A call by way of the host: `Owes a` is what the call owes with the answer a, `Zero` that all it was lent for writing is zero. "A fixed slice of 64-bit
 -- numbers receives the counts .. with zero in the rest. Refusals: 23, that slice has fewer than 4 numbers; before all others."
-pub record Hosted {A : Type 0} (refusal-of : A → Refusal) (Counts-of : A → List ℕ) (Owes : A → Type 0) (Zero : Type 0) (counts : List ℕ) (r : ℕ)
+pub record Hosted {A : Type 0} (refusal_of : A → Refusal) (CountsOf : A → List ℕ) (Owes : A → Type 0) (Zero : Type 0) (counts : List ℕ) (r : ℕ)
     (counts' : List ℕ) : Type 0 where
-  pub few : length counts < fewest-counts → Zero × (r ≡ packed (refusal counts-few 0)) × (counts' ≡ zeros (length counts))
-  pub enough : fewest-counts ≤ length counts
-      → (a : A) × Owes a × (r ≡ packed (refusal-of a)) × (counts' ≡ filled (length counts) (Counts-of a))
+  pub few : length counts < fewest_counts → Zero × (r ≡ packed (refusal counts_few 0)) × (counts' ≡ zeros (length counts))
+  pub enough : fewest_counts ≤ length counts
+      → (a : A) × Owes a × (r ≡ packed (refusal_of a)) × (counts' ≡ filled (length counts) (CountsOf a))
 
 -- "entries"
 abbrev pub HostReads : Text → Table → List ℕ → ℕ → Table → List ℕ → Type 0

@@ -4,7 +4,7 @@ ghost use Rattle.std.specs.Prelude.{◌≡◌, ◌≤◌, ◌<◌, length, get_o
 ghost use Rattle.theory.specs.Refusal.{refusal, success};
 ghost use Rattle.theory.specs.Column.{zeros, filled};
 ghost use Rattle.theory.specs.Table.{table};
-ghost use Rattle.theory.specs.Arcs.{arc-columns};
+ghost use Rattle.theory.specs.Arcs.{arc_columns};
 ghost use Rattle.theory.specs.Build.{lent};
 ghost use Rattle.theory.specs.Record.{handed, work};
 ghost use Rattle.host.specs.Host.{packed, HostReads, HostBuilds, HostJudges};
@@ -88,10 +88,10 @@ pub extern "C" fn gumpaleri_build(
 ) -> u64
     ensures { HostBuilds (table kind.now left.now right.now)
         (lent (table xkind.old xleft.old xright.old) expression.old accepting.old
-        (arc-columns from.old letter.old to.old))
+        (arc_columns from.old letter.old to.old))
         counts.old result
         (lent (table xkind.new xleft.new xright.new) expression.new accepting.new
-        (arc-columns from.new letter.new to.new))
+        (arc_columns from.new letter.new to.new))
         counts.new }
 {
     if counts.len() < COUNTS {
@@ -125,7 +125,7 @@ pub extern "C" fn gumpaleri_judge(
     next: &mut [u64],
     counts: &mut [u64],
 ) -> u64
-    ensures { HostJudges (handed states accepting.now arcs (arc-columns from.now letter.now to.now))
+    ensures { HostJudges (handed states accepting.now arcs (arc_columns from.now letter.now to.now))
         «record».now (work current.old next.old) counts.old result
         (work current.new next.new) counts.new }
 {

@@ -12,8 +12,8 @@ use Rattle.io.specs.Digits.{hex_digit_ascii, last_digits, IsDigitCount}
 use Rattle.theory.specs.Lines.{digits_in, decimal}
 
 -- A digit below 10 is written from `0` on.
-glyph-of : (d : ℕ) → d < 10 → 48 + d ≡ hex_digit_ascii d
-glyph-of d l = go (ltb d 10) refl
+glyph_of : (d : ℕ) → d < 10 → 48 + d ≡ hex_digit_ascii d
+glyph_of d l = go (ltb d 10) refl
   where
     go : (b : Bool) → ltb d 10 ≡ b → 48 + d ≡ cond b (48 + d) (87 + d)
     go true e = refl
@@ -23,47 +23,47 @@ glyph-of d l = go (ltb d 10) refl
 no_less : (n k : ℕ) → IsDigitCount 10 1 n (suc (suc k)) → 10 ^ suc k ≤ n
 no_less n k (l, below, above) = subst (λ (m : ℕ). 10 ^ m ≤ n) (suc-sub-suc (suc k) 0 ∙ sub-zero (suc k)) (above (omega arith))
 
-ten-or-more : (n k : ℕ) → IsDigitCount 10 1 n (suc (suc k)) → 10 ≤ n
-ten-or-more n k f = let a = no_less n k f in let p = pow-suc 10 k in let q = one-le-pow k 10 (omega arith) in omega arith
+ten_or_more : (n k : ℕ) → IsDigitCount 10 1 n (suc (suc k)) → 10 ≤ n
+ten_or_more n k f = let a = no_less n k f in let p = pow-suc 10 k in let q = one-le-pow k 10 (omega arith) in omega arith
 
-tenth-fewest : (n k : ℕ) → IsDigitCount 10 1 n (suc (suc k)) → IsDigitCount 10 1 (n / 10) (suc k)
-tenth-fewest n k f = (
+tenth_fewest : (n k : ℕ) → IsDigitCount 10 1 n (suc (suc k)) → IsDigitCount 10 1 (n / 10) (suc k)
+tenth_fewest n k f = (
   omega arith,
   let b = f.1 in let p = pow-suc 10 (suc k) in omega arith,
   λ h. subst (λ (m : ℕ). 10 ^ m ≤ n / 10) (sym (suc-sub-suc k 0 ∙ sub-zero k)) (let a = no_less n k f in let p = pow-suc 10 k in omega arith),
 )
 
-in-steps : (steps n k : ℕ) → n < steps → IsDigitCount 10 1 n k → digits_in steps n ≡ last_digits 10 k n
+in_steps : (steps n k : ℕ) → n < steps → IsDigitCount 10 1 n k → digits_in steps n ≡ last_digits 10 k n
 unfolding digits_in
-in-steps zero n k l f = absurd (omega arith)
-in-steps (suc s) n zero l (h, below, above) = absurd (omega arith)
-in-steps (suc s) n (suc zero) l (h, below, above) = go (ltb n 10) refl
+in_steps zero n k l f = absurd (omega arith)
+in_steps (suc s) n zero l (h, below, above) = absurd (omega arith)
+in_steps (suc s) n (suc zero) l (h, below, above) = go (ltb n 10) refl
   where
     go : (b : Bool) → ltb n 10 ≡ b → cond b ((48 + n) ∷ []) (digits_in s (n / 10) ++ ((48 + n % 10) ∷ [])) ≡ hex_digit_ascii (n % 10) ∷ []
-    go true e = let l = ltb-true n 10 e in ap (λ (d : ℕ). d ∷ []) (glyph-of n l ∙ ap hex_digit_ascii (sym (mod-eq_of_lt l)))
+    go true e = let l = ltb-true n 10 e in ap (λ (d : ℕ). d ∷ []) (glyph_of n l ∙ ap hex_digit_ascii (sym (mod-eq_of_lt l)))
     go false e = absurd (let m = ltb-false n 10 e in omega arith)
-in-steps (suc s) n (suc (suc k)) l f = go (ltb n 10) refl (λ h. in-steps s (n / 10) (suc k) h (tenth-fewest n k f))
+in_steps (suc s) n (suc (suc k)) l f = go (ltb n 10) refl (λ h. in_steps s (n / 10) (suc k) h (tenth_fewest n k f))
   where
     go : (b : Bool) → ltb n 10 ≡ b → (n / 10 < s → digits_in s (n / 10) ≡ last_digits 10 (suc k) (n / 10))
         → cond b ((48 + n) ∷ []) (digits_in s (n / 10) ++ ((48 + n % 10) ∷ [])) ≡ last_digits 10 (suc k) (n / 10) ++ (hex_digit_ascii (n % 10) ∷ [])
-    go true e h = absurd (let m = ltb-true n 10 e in let t = ten-or-more n k f in omega arith)
+    go true e h = absurd (let m = ltb-true n 10 e in let t = ten_or_more n k f in omega arith)
     go false e h =
         let m = ltb-false n 10 e in
-        ap₂ (λ (front : List ℕ) (d : ℕ). front ++ (d ∷ [])) (h (omega arith)) (glyph-of (n % 10) (mod-lt n (omega arith)))
+        ap₂ (λ (front : List ℕ) (d : ℕ). front ++ (d ∷ [])) (h (omega arith)) (glyph_of (n % 10) (mod-lt n (omega arith)))
 
-pub decimal-digits : (n k : ℕ) → IsDigitCount 10 1 n k → last_digits 10 k n ≡ decimal n
+pub decimal_digits : (n k : ℕ) → IsDigitCount 10 1 n k → last_digits 10 k n ≡ decimal n
 unfolding decimal digits_in
-decimal-digits n k f = sym (in-steps (suc n) n k (omega arith) f)
+decimal_digits n k f = sym (in_steps (suc n) n k (omega arith) f)
 
-digits-short : (steps n k : ℕ) → n < 10 ^ suc k → length (digits_in steps n) ≤ suc k
+digits_short : (steps n k : ℕ) → n < 10 ^ suc k → length (digits_in steps n) ≤ suc k
 unfolding digits_in
-digits-short zero n k l = zero-le
-digits-short (suc s) n zero l = go (ltb n 10) refl
+digits_short zero n k l = zero-le
+digits_short (suc s) n zero l = go (ltb n 10) refl
   where
     go : (b : Bool) → ltb n 10 ≡ b → length (cond b ((48 + n) ∷ []) (digits_in s (n / 10) ++ ((48 + n % 10) ∷ []))) ≤ 1
     go true e = omega arith
     go false e = absurd (let m = ltb-false n 10 e in omega arith)
-digits-short (suc s) n (suc k) l = go (ltb n 10) (digits-short s (n / 10) k (let p = pow-suc 10 (suc k) in omega arith))
+digits_short (suc s) n (suc k) l = go (ltb n 10) (digits_short s (n / 10) k (let p = pow-suc 10 (suc k) in omega arith))
   where
     go : (b : Bool) → length (digits_in s (n / 10)) ≤ suc k
         → length (cond b ((48 + n) ∷ []) (digits_in s (n / 10) ++ ((48 + n % 10) ∷ []))) ≤ suc (suc k)
@@ -71,6 +71,6 @@ digits-short (suc s) n (suc k) l = go (ltb n 10) (digits-short s (n / 10) k (let
     go false h = let m = length-append (digits_in s (n / 10)) ((48 + n % 10) ∷ []) in omega arith
 
 -- A number below a power of ten has no more digits than the power has zeros.
-pub decimal-short : (n k : ℕ) → n < 10 ^ suc k → length (decimal n) ≤ suc k
+pub decimal_short : (n k : ℕ) → n < 10 ^ suc k → length (decimal n) ≤ suc k
 unfolding decimal
-decimal-short n k l = digits-short (suc n) n k l
+decimal_short n k l = digits_short (suc n) n k l

@@ -9,21 +9,21 @@ use lib.Seq.{take_all, take-suc, take-suc-set}
 use Rattle.io.specs.Digits.{IsDigitCount}
 use Rattle.io.specs.Digits.{last_digits as Digits·digits}
 use Rattle.theory.specs.Refusal.{Refusal}
-use Rattle.theory.specs.Lines.{decimal, number-and, space, newline, row, refusal-line}
-use Rattle.theory.proofs.Members.{flatMap-append}
-use Rattle.lines.specs.Output.{Put, number-room, line-room}
-use Rattle.lines.proofs.Decimal.{decimal-digits, decimal-short}
+use Rattle.theory.specs.Lines.{decimal, number_and, space, newline, row, refusal_line}
+use Rattle.theory.proofs.Members.{flatMap_append}
+use Rattle.lines.specs.Output.{Put, number_room, line_room}
+use Rattle.lines.proofs.Decimal.{decimal_digits, decimal_short}
 
-pub put-nothing : {block : List ℕ} {used : ℕ} → Put [] block used block used
-put-nothing {block} {used} = record { count = sym (add-zero used); stands = sym (append-nil (take used block)); same_length = refl }
+pub put_nothing : {block : List ℕ} {used : ℕ} → Put [] block used block used
+put_nothing {block} {used} = record { count = sym (add-zero used); stands = sym (append-nil (take used block)); same_length = refl }
 
 -- The same, as a loop begins.
-pub put-none : (block : List ℕ) (used : ℕ) → Put [] block used block (used + 0)
-put-none block used = rw add-zero put-nothing
+pub put_none : (block : List ℕ) (used : ℕ) → Put [] block used block (used + 0)
+put_none block used = rw add-zero put_nothing
 
 -- What stands in a block is no longer than it.
-pub put-within : {text before after : List ℕ} {used : ℕ} → Put text before 0 after used → used ≤ length after
-put-within {after = after} {used} p =
+pub put_within : {text before after : List ℕ} {used : ℕ} → Put text before 0 after used → used ≤ length after
+put_within {after = after} {used} p =
     let n = p.count in
     let m = length-take used after in
     let e = ap length p.stands in
@@ -63,15 +63,15 @@ pub put_all : (bytes : List ℕ) (i : ℕ) {used used' : ℕ} {before after : Li
 put_all bytes i {used} {used'} {before} {after} l p = subst (λ (text : List ℕ). Put text before used after used') (take_all i bytes l) p
 
 -- A number and a byte, where the digits are the fewest that hold the number.
-pub number-text : (n k : ℕ) (digits : List ℕ) → IsDigitCount 10 1 n k → take k digits ≡ Digits·digits 10 k n → take k digits ≡ decimal n
-number-text n k digits f d = d ∙ decimal-digits n k f
+pub number_text : (n k : ℕ) (digits : List ℕ) → IsDigitCount 10 1 n k → take k digits ≡ Digits·digits 10 k n → take k digits ≡ decimal n
+number_text n k digits f d = d ∙ decimal_digits n k f
 
 -- The byte after a number has room, and makes it whole.
 pub record Numbered (before : List ℕ) (used : ℕ) (between : List ℕ) (at n after : ℕ) : Type 0 where
   pub inside : at < length between
-  pub put : Put (number-and n after) before used (set between at after) (at + 1)
+  pub put : Put (number_and n after) before used (set between at after) (at + 1)
 
-pub numbered : {n after : ℕ} {text before between : List ℕ} {used at : ℕ} → text ≡ decimal n → used + length (number-and n after) ≤ length before
+pub numbered : {n after : ℕ} {text before between : List ℕ} {used at : ℕ} → text ≡ decimal n → used + length (number_and n after) ≤ length before
     → Put text before used between at → Numbered before used between at n after
 numbered {n} {after} {text} {before} {between} {used} {at} e r p = record {
   inside = inside;
@@ -88,11 +88,11 @@ numbered {n} {after} {text} {before} {between} {used} {at} e r p = record {
 
 -- ---- A refusal's line
 
-pub number_short : (n after : ℕ) → n < 2 ^ 64 → length (number-and n after) ≤ 21
-number_short n after l = let d = decimal-short n 19 (omega arith) in let m = length-append (decimal n) (after ∷ []) in omega arith
+pub number_short : (n after : ℕ) → n < 2 ^ 64 → length (number_and n after) ≤ 21
+number_short n after l = let d = decimal_short n 19 (omega arith) in let m = length-append (decimal n) (after ∷ []) in omega arith
 
-pub refusal-short : (r : Refusal) → r.number < 2 ^ 64 → r.place < 2 ^ 64 → length (refusal-line r) ≤ line-room
-refusal-short r l m =
+pub refusal_short : (r : Refusal) → r.number < 2 ^ 64 → r.place < 2 ^ 64 → length (refusal_line r) ≤ line_room
+refusal_short r l m =
     let a = number_short r.number space l in
     let b = number_short r.place newline m in
     simp length-append (omega (arith, simp length-append at a, simp length-append at b))
@@ -101,39 +101,39 @@ refusal-short r l m =
 
 unfoldable pub spaced : List ℕ → ℕ → List ℕ
 unfolding flat_map decimal
-spaced numbers i = flat_map (λ n. number-and n space) (take i numbers)
+spaced numbers i = flat_map (λ n. number_and n space) (take i numbers)
 
-spaced-more : (numbers : List ℕ) (i : ℕ) → i < length numbers → spaced numbers (i + 1) ≡ spaced numbers i ++ number-and (get_or numbers i 0) space
+spaced_more : (numbers : List ℕ) (i : ℕ) → i < length numbers → spaced numbers (i + 1) ≡ spaced numbers i ++ number_and (get_or numbers i 0) space
 unfolding spaced flat_map
-spaced-more numbers i l =
-    ap (λ (xs : List ℕ). flat_map (λ n. number-and n space) xs) (ap (λ (n : ℕ). take n numbers) (one_more i) ∙ take-suc numbers i 0 l)
-    ∙ flatMap-append (λ n. number-and n space) (take i numbers) (get_or numbers i 0 ∷ [])
-    ∙ ap (λ (x : List ℕ). flat_map (λ n. number-and n space) (take i numbers) ++ x) (append-nil (number-and (get_or numbers i 0) space))
+spaced_more numbers i l =
+    ap (λ (xs : List ℕ). flat_map (λ n. number_and n space) xs) (ap (λ (n : ℕ). take n numbers) (one_more i) ∙ take-suc numbers i 0 l)
+    ∙ flatMap_append (λ n. number_and n space) (take i numbers) (get_or numbers i 0 ∷ [])
+    ∙ ap (λ (x : List ℕ). flat_map (λ n. number_and n space) (take i numbers) ++ x) (append-nil (number_and (get_or numbers i 0) space))
 
 -- The first i numbers stand, each in its room.
 pub record Spaced (numbers before : List ℕ) (used : ℕ) (after : List ℕ) (at i : ℕ) : Type 0 where
   pub put : Put (spaced numbers i) before used after at
-  pub room : at ≤ used + i * number-room
+  pub room : at ≤ used + i * number_room
   pub within : i ≤ length numbers
 
-pub spaced-none : (numbers before : List ℕ) (used : ℕ) → Spaced numbers before used before used 0
+pub spaced_none : (numbers before : List ℕ) (used : ℕ) → Spaced numbers before used before used 0
 unfolding spaced flat_map
-spaced-none numbers before used = record { put = put-nothing; room = omega arith; within = omega arith }
+spaced_none numbers before used = record { put = put_nothing; room = omega arith; within = omega arith }
 
 module _ {numbers before between : List ℕ} {used at i : ℕ} (s : Spaced numbers before used between at i) {after : List ℕ} {at' : ℕ} where
-  pub spaced-next : i < length numbers → get_or numbers i 0 < 2 ^ 64 → Put (number-and (get_or numbers i 0) space) between at after at'
+  pub spaced_next : i < length numbers → get_or numbers i 0 < 2 ^ 64 → Put (number_and (get_or numbers i 0) space) between at after at'
       → Spaced numbers before used after at' (i + 1)
-  spaced-next l m p = record {
-    put = rw (spaced-more numbers i l) (put_then s.put p);
+  spaced_next l m p = record {
+    put = rw (spaced_more numbers i l) (put_then s.put p);
     room = let a = number_short (get_or numbers i 0) space m in let c = p.count in let r = s.room in omega arith;
     within = omega arith;
   }
 
-  pub row_put : {last : ℕ} → length numbers ≤ i → last < 2 ^ 64 → Put (number-and last newline) between at after at'
-      → Put (row numbers last) before used after at' × (at' ≤ used + (length numbers + 1) * number-room)
+  pub row_put : {last : ℕ} → length numbers ≤ i → last < 2 ^ 64 → Put (number_and last newline) between at after at'
+      → Put (row numbers last) before used after at' × (at' ≤ used + (length numbers + 1) * number_room)
   unfolding row spaced
   row_put {last} l m p = (
-    subst (λ (xs : List ℕ). Put (flat_map (λ n. number-and n space) xs ++ number-and last newline) before used after at') (take_all i numbers l)
+    subst (λ (xs : List ℕ). Put (flat_map (λ n. number_and n space) xs ++ number_and last newline) before used after at') (take_all i numbers l)
         (put_then s.put p),
     let a = number_short last newline m in let c = p.count in let r = s.room in let w = s.within in omega arith,
   )

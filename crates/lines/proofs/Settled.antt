@@ -12,26 +12,26 @@ use Rattle.theory.specs.Lines.{newline}
 use Rattle.lines.specs.declared.input.Input.{Input}
 use Rattle.lines.specs.declared.input.Line.{Line}
 use Rattle.lines.specs.declared.input.Line.TheVariants.{None, Ended, Full, Failed}
-use Rattle.lines.specs.Input.{Inside, untaken, Unbroken, To-newline, Took}
+use Rattle.lines.specs.Input.{Inside, untaken, Unbroken, ToNewline, Took}
 
 -- Up to its first newline a text is one list.
-first-newline : (xs us ys vs : List ℕ) → Unbroken xs → Unbroken ys → xs ++ newline ∷ us ≡ ys ++ newline ∷ vs → (xs ≡ ys) × (us ≡ vs)
-first-newline [] us [] vs u v e = (refl, cc)
-first-newline [] us (y ∷ ys) vs u v e = absurd (v (Memᴰ.head cc))
-first-newline (x ∷ xs) us [] vs u v e = absurd (u (Memᴰ.head cc))
-first-newline (x ∷ xs) us (y ∷ ys) vs u v e =
-    let more = first-newline xs us ys vs (λ m. u (Memᴰ.tail m)) (λ m. v (Memᴰ.tail m)) cc in
+first_newline : (xs us ys vs : List ℕ) → Unbroken xs → Unbroken ys → xs ++ newline ∷ us ≡ ys ++ newline ∷ vs → (xs ≡ ys) × (us ≡ vs)
+first_newline [] us [] vs u v e = (refl, cc)
+first_newline [] us (y ∷ ys) vs u v e = absurd (v (Memᴰ.head cc))
+first_newline (x ∷ xs) us [] vs u v e = absurd (u (Memᴰ.head cc))
+first_newline (x ∷ xs) us (y ∷ ys) vs u v e =
+    let more = first_newline xs us ys vs (λ m. u (Memᴰ.tail m)) (λ m. v (Memᴰ.tail m)) cc in
     let heads : x ≡ y = cc in
     (ap₂ (λ (z : ℕ) (zs : List ℕ). z ∷ zs) heads more.0, more.1)
 
 -- A newline after fewer bytes than ys has stands in ys.
-newline-within : (xs us ys vs : List ℕ) → length xs < length ys → xs ++ newline ∷ us ≡ ys ++ vs → Memᴰ newline ys
-newline-within xs us [] vs l e = absurd (omega arith)
-newline-within [] us (y ∷ ys) vs l e = let q : newline ≡ y = cc in Memᴰ.head q
-newline-within (x ∷ xs) us (y ∷ ys) vs l e = Memᴰ.tail (newline-within xs us ys vs (omega arith) cc)
+newline_within : (xs us ys vs : List ℕ) → length xs < length ys → xs ++ newline ∷ us ≡ ys ++ vs → Memᴰ newline ys
+newline_within xs us [] vs l e = absurd (omega arith)
+newline_within [] us (y ∷ ys) vs l e = let q : newline ≡ y = cc in Memᴰ.head q
+newline_within (x ∷ xs) us (y ∷ ys) vs l e = Memᴰ.tail (newline_within xs us ys vs (omega arith) cc)
 
 -- The line is these bytes of the block, and no more was taken than its newline.
-pub record Line-of-block (block : List ℕ) (input : Input) (bytes : List ℕ) (line : Line) (block' column : List ℕ) : Type 0 where
+pub record LineOfBlock (block : List ℕ) (input : Input) (bytes : List ℕ) (line : Line) (block' column : List ℕ) : Type 0 where
   pub is : line ≡ Ended (length bytes) (record { at = input.at + length bytes + 1; end = input.end })
   pub kept : block' ≡ block
   pub stored : take (length bytes) column ≡ bytes
@@ -43,15 +43,15 @@ module _ {block : List ℕ} {input : Input} (i : Inside input block) (bytes rest
   broken v = v (subst (Memᴰ newline) (sym stands) (Memᴰ.append_right bytes (Memᴰ.head refl)))
 
   -- What comes after what was untaken comes after the newline.
-  with-more : (came : List ℕ) → untaken block input ++ came ≡ bytes ++ newline ∷ (rest ++ came)
-  with-more came = ap (λ (x : List ℕ). x ++ came) stands ∙ append_assoc bytes (newline ∷ rest) came
+  with_more : (came : List ℕ) → untaken block input ++ came ≡ bytes ++ newline ∷ (rest ++ came)
+  with_more came = ap (λ (x : List ℕ). x ++ came) stands ∙ append_assoc bytes (newline ∷ rest) came
 
   module _ {block' column : List ℕ} where
-    of-line : {n : ℕ} {input' : Input} → n ≤ length column → Inside input' block' → To-newline block input (take n column) block' input'
-        → Line-of-block block input bytes (Ended n input') block' column
-    of-line {n} {input'} w j (v, t) =
-        let split = first-newline bytes (rest ++ t.came) (take n column) (untaken block' input') u v
-        (sym (with-more t.came) ∙ t.all ∙ append_assoc (take n column) (newline ∷ []) (untaken block' input')) in
+    of_line : {n : ℕ} {input' : Input} → n ≤ length column → Inside input' block' → ToNewline block input (take n column) block' input'
+        → LineOfBlock block input bytes (Ended n input') block' column
+    of_line {n} {input'} w j (v, t) =
+        let split = first_newline bytes (rest ++ t.came) (take n column) (untaken block' input') u v
+        (sym (with_more t.came) ∙ t.all ∙ append_assoc (take n column) (newline ∷ []) (untaken block' input')) in
         let long = length-take-le n column w in
         let short = ap length split.0 in
         let held = ap length stands in
@@ -74,13 +74,13 @@ module _ {block : List ℕ} {input : Input} (i : Inside input block) (bytes rest
         ]
 
     pub settled : (line : Line) → length bytes < length column → Took block input line block' column
-        → Line-of-block block input bytes line block' column
+        → LineOfBlock block input bytes line block' column
     settled None l h = absurd (broken (subst Unbroken (sym h.holds) Memᴰ.not-nil))
     settled (Ended n input') l h = elim h.holds.2 [
-      | inl t ↦ of-line (let k = h.holds.0 in omega arith) h.holds.1 t
+      | inl t ↦ of_line (let k = h.holds.0 in omega arith) h.holds.1 t
       | inr t ↦ absurd (broken (λ m. t.1.0 (subst (Memᴰ newline) t.1.1.1 (Memᴰ.append_left t.1.1.0 m))))
     ]
     settled (Full input') l h =
         let (v, t) = h.holds.1 in
-        absurd (v (newline-within bytes (rest ++ t.came) column (untaken block' input') l (sym (with-more t.came) ∙ t.all)))
+        absurd (v (newline_within bytes (rest ++ t.came) column (untaken block' input') l (sym (with_more t.came) ∙ t.all)))
     settled Failed l h = absurd (broken h.holds)

@@ -49,17 +49,17 @@ Waits block input true = Unbroken (untaken block input)
 Waits block input false = Memᴰ newline (untaken block input)
 
 -- The bytes up to the next newline, which is taken too.
-abbrev pub To-newline : List ℕ → Input → List ℕ → List ℕ → Input → Type 0
-To-newline block input bytes block' input' = Unbroken bytes × Taken block input (bytes ++ (newline ∷ [])) block' input'
+abbrev pub ToNewline : List ℕ → Input → List ℕ → List ℕ → Input → Type 0
+ToNewline block input bytes block' input' = Unbroken bytes × Taken block input (bytes ++ (newline ∷ [])) block' input'
 
 -- All bytes that are untaken or come, up to the end of the input.
-abbrev pub To-end : List ℕ → Input → List ℕ → List ℕ → Input → Type 0
-To-end block input bytes block' input' =
+abbrev pub ToEnd : List ℕ → Input → List ℕ → List ℕ → Input → Type 0
+ToEnd block input bytes block' input' =
     Unbroken bytes × ((came : List ℕ) × (untaken block input ++ came ≡ bytes)) × (untaken block' input' ≡ [])
 
 -- The bytes of the next line. 01: "A last line without newline counts if it has a byte".
 abbrev pub Comes : List ℕ → Input → List ℕ → List ℕ → Input → Type 0
-Comes block input bytes block' input' = To-newline block input bytes block' input' ⊎ ((0 < length bytes) × To-end block input bytes block' input')
+Comes block input bytes block' input' = ToNewline block input bytes block' input' ⊎ ((0 < length bytes) × ToEnd block input bytes block' input')
 
 -- A line as it is stored in the column, where `Over` is said of one that fills it. A read fails only where no newline is left in the block.
 abbrev pub Holds : (Input → Type 0) → List ℕ → Input → Line → List ℕ → List ℕ → Type 0
@@ -85,11 +85,11 @@ TookWhole block input line block' column =
     Stores (λ input'. (more : List ℕ) × Comes block input (column ++ more) block' input') block input line block' column
 
 -- The bytes of a line as it was taken. One that filled the column has more.
-abbrev pub line-bytes : Line → List ℕ → List ℕ
-line-bytes None column = []
-line-bytes (Ended n input) column = take n column
-line-bytes (Full input) column = column
-line-bytes Failed column = []
+abbrev pub line_bytes : Line → List ℕ → List ℕ
+line_bytes None column = []
+line_bytes (Ended n input) column = take n column
+line_bytes (Full input) column = column
+line_bytes Failed column = []
 
 -- A column of one byte more than a line may have: a line that ended is no longer than that, and one that fills the column is.
 abbrev pub Within : ℕ → Line → Type 0
@@ -105,5 +105,5 @@ pub record Whole (most : ℕ) (line : Line) (column : List ℕ) : Type 0 where
 -- The rest of a line is passed over, with its newline. A read fails only where no newline is left in the block.
 abbrev pub Passes : List ℕ → Input → Passed → List ℕ → Type 0
 Passes block input (rest.To input') block' =
-    Inside input' block' × ((bytes : List ℕ) × (To-newline block input bytes block' input' ⊎ To-end block input bytes block' input'))
+    Inside input' block' × ((bytes : List ℕ) × (ToNewline block input bytes block' input' ⊎ ToEnd block input bytes block' input'))
 Passes block input rest.Failed block' = Unbroken (untaken block input)

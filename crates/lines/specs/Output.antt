@@ -12,12 +12,12 @@ pub record Put (text before : List ℕ) (used : ℕ) (after : List ℕ) (used' :
   pub same_length : length after ≡ length before
 
 -- A number of 64 bits and the byte after it.
-abbrev pub number-room : ℕ
-number-room = 21
+abbrev pub number_room : ℕ
+number_room = 21
 
 -- No line of the records program and of the room report, and no refusal, is longer. The code has it as `LINE`.
-abbrev pub line-room : ℕ
-line-room = 128
+abbrev pub line_room : ℕ
+line_room = 128
 
 -- So many bytes are said to be written, or that it failed.
 abbrev pub Wrote : ℕ → Written → Type 0
@@ -26,11 +26,11 @@ Wrote n written.Failed = Unit {0}
 
 -- A write is due where a line might not fit after what is used, or the caller would wait. Then none of it is used still, and else all of it.
 abbrev pub due : (size used : ℕ) → Bool → Bool
-due size used waits = waits || ltb (size - used) line-room
+due size used waits = waits || ltb (size - used) line_room
 
-abbrev pub left-of : (size used : ℕ) → Bool → ℕ
-left-of size used waits = cond (due size used waits) 0 used
+abbrev pub left_of : (size used : ℕ) → Bool → ℕ
+left_of size used waits = cond (due size used waits) 0 used
 
 abbrev pub Roomy : (size used : ℕ) → Bool → Room → Type 0
-Roomy size used waits (room.For used' count) = (used' ≡ left-of size used waits) × (count + used' ≡ used)
+Roomy size used waits (room.For used' count) = (used' ≡ left_of size used waits) × (count + used' ≡ used)
 Roomy size used waits room.Failed = due size used waits ≡ true

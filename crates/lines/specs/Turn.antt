@@ -6,20 +6,20 @@ use Rattle.lines.specs.declared.input.Input.{Input}
 use Rattle.lines.specs.declared.turn.Asked.{Asked}
 use Rattle.lines.specs.declared.turn.Asked.TheVariants.{Line, WriteFailed}
 use Rattle.lines.specs.Input.{untaken, Unbroken, Comes, TookWhole}
-use Rattle.lines.specs.Output.{line-room}
+use Rattle.lines.specs.Output.{line_room}
 
 -- Of a block of `size` bytes so many are used still: none where the next line needs a read or might not fit, and else all that were.
 pub record Left (taken : List ℕ) (input : Input) (size used left : ℕ) : Type 0 where
   pub shown : Unbroken (untaken taken input) → left ≡ 0
-  pub full : size < used + line-room → left ≡ 0
-  pub stays : Memᴰ newline (untaken taken input) → used + line-room ≤ size → left ≡ used
+  pub full : size < used + line_room → left ≡ 0
+  pub stays : Memᴰ newline (untaken taken input) → used + line_room ≤ size → left ≡ used
   pub whole : (left ≡ used) ⊎ (left ≡ 0)
-  pub room : left + line-room ≤ size
+  pub room : left + line_room ≤ size
 
 -- A write is due: the next line needs a read, or it might not fit.
 pub data Due (taken : List ℕ) (input : Input) (size used : ℕ) : Type 0 where
-  before-a-read : Unbroken (untaken taken input) → Due taken input size used
-  for-room : size < used + line-room → Due taken input size used
+  before_a_read : Unbroken (untaken taken input) → Due taken input size used
+  for_room : size < used + line_room → Due taken input size used
 
 -- What `ask` owes. A write fails only where one is due, and then no line is taken.
 abbrev pub Asks : List ℕ → Input → (size used : ℕ) → Asked → List ℕ → List ℕ → Type 0

@@ -1,7 +1,7 @@
 // Lines of standard input. 01: they end at a newline; "A last line without newline counts if it has a byte".
 
 ghost use Rattle.std.specs.Prelude.{◌<◌, ◌≡◌, length};
-ghost use Rattle.lines.specs.Input.{Inside, Fills, Nexts, Waits, last, Took, TookWhole, Within, line-bytes, Passes};
+ghost use Rattle.lines.specs.Input.{Inside, Fills, Nexts, Waits, last, Took, TookWhole, Within, line_bytes, Passes};
 
 // The bytes of the lent block from `at` to `end` are read and not yet taken. A block of one byte takes nothing after a newline.
 #[derive(Drop)]
@@ -139,7 +139,7 @@ fn last_line(length: usize, input: Input) -> Line
 // The bytes of a line, as far as they were taken.
 pub fn bytes(line: Line, column: &[u8]) -> &[u8]
     requires { Within (length column.now) line }
-    ensures { result.now ≡ line-bytes line column.now }
+    ensures { result.now ≡ line_bytes line column.now }
 {
     match line {
         Line::None => &column[..0],

@@ -2,8 +2,8 @@
 
 ghost use Rattle.std.specs.Prelude.{◌≡◌, ◌+◌, ◌*◌, ◌≤◌, length};
 ghost use Rattle.theory.specs.Refusal.{refusal};
-ghost use Rattle.theory.specs.Lines.{number-and, row, refusal-line};
-ghost use Rattle.lines.specs.Output.{Put, number-room, line-room, Wrote, Roomy};
+ghost use Rattle.theory.specs.Lines.{number_and, row, refusal_line};
+ghost use Rattle.lines.specs.Output.{Put, number_room, line_room, Wrote, Roomy};
 
 // No line of the records program and of the room report, and no refusal, is longer.
 pub const LINE: usize = 128;
@@ -23,8 +23,8 @@ pub fn word(block: &mut [u8], used: usize, bytes: &[u8]) -> usize
 
 // A number in decimal and one byte, after the used ones.
 pub fn number(block: &mut [u8], used: usize, n: usize, after: u8) -> usize
-    requires { used + length (number-and n after) ≤ length block.old }
-    ensures { Put (number-and n after) block.old used block.new result }
+    requires { used + length (number_and n after) ≤ length block.old }
+    ensures { Put (number_and n after) block.old used block.new result }
 {
     // 64 bits have at most 20 digits.
     let mut digits = [0u8; 20];
@@ -36,9 +36,9 @@ pub fn number(block: &mut [u8], used: usize, n: usize, after: u8) -> usize
 
 // Numbers on a line, single-spaced, after the used bytes.
 pub fn row(block: &mut [u8], used: usize, numbers: &[u64], last: u64) -> usize
-    requires { used + (length numbers.now + 1) * number-room ≤ length block.old }
+    requires { used + (length numbers.now + 1) * number_room ≤ length block.old }
     ensures put { Put (row numbers.now last) block.old used block.new result }
-    ensures upper_bound { result ≤ used + (length numbers.now + 1) * number-room }
+    ensures upper_bound { result ≤ used + (length numbers.now + 1) * number_room }
 {
     let mut at = used;
     let mut i = 0;
@@ -51,9 +51,9 @@ pub fn row(block: &mut [u8], used: usize, numbers: &[u64], last: u64) -> usize
 
 // 01: "Both print `refused R P` (number, place) on a refusal".
 pub fn refused(block: &mut [u8], used: usize, number: u8, place: usize) -> usize
-    requires { used + line-room ≤ length block.old }
-    ensures put { Put (refusal-line (refusal number place)) block.old used block.new result }
-    ensures upper_bound { result ≤ used + line-room }
+    requires { used + line_room ≤ length block.old }
+    ensures put { Put (refusal_line (refusal number place)) block.old used block.new result }
+    ensures upper_bound { result ≤ used + line_room }
 {
     let said = word(block, used, b"refused ");
     let numbered = self::number(block, said, number as usize, b' ');
@@ -92,7 +92,7 @@ pub enum Room {
 
 // Writes the block out where a line might not fit after what it holds, or where the caller would wait. How much of it is used then.
 pub fn with_room(block: &[u8], used: usize, waits: bool) -> Room
-    requires { (used ≤ length block.now) × (line-room ≤ length block.now) }
+    requires { (used ≤ length block.now) × (line_room ≤ length block.now) }
     ensures { Roomy (length block.now) used waits result }
 {
     if waits | (block.len() - used < LINE) {

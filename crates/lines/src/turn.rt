@@ -2,7 +2,7 @@
 
 ghost use Rattle.std.specs.Prelude.{◌<◌, ◌≤◌, length};
 ghost use Rattle.lines.specs.Input.{Inside};
-ghost use Rattle.lines.specs.Output.{line-room};
+ghost use Rattle.lines.specs.Output.{line_room};
 ghost use Rattle.lines.specs.Turn.{Asks};
 
 use crate::input::{Input, Line};
@@ -18,7 +18,7 @@ pub enum Asked {
 // The next line, and how much of the block is used still. What is answered is written out before a read, and so before the end of the input.
 pub fn ask(taken: &mut [u8], input: Input, column: &mut [u8], block: &[u8], used: usize) -> Asked
     requires inside { Inside input taken.old × (0 < length column.old) }
-    requires used_in_bounds { (used ≤ length block.now) × (line-room ≤ length block.now) }
+    requires used_in_bounds { (used ≤ length block.now) × (line_room ≤ length block.now) }
     ensures { Asks taken.old input (length block.now) used result taken.new column.new }
 {
     let waits = input::waits(taken, input);

@@ -3,27 +3,27 @@
 use Rattle.std.specs.Prelude.{ℕ, ◌+◌, ◌*◌, ◌<◌, ◌≡◌, cond, length, get_or, eqb}
 use mathlib.Core.List.{List, [], flat_map}
 use Rattle.theory.specs.Automaton.{Arc, ascending}
-use Rattle.theory.specs.Arcs.{ArcColumns, first-arcs}
+use Rattle.theory.specs.Arcs.{ArcColumns, first_arcs}
 use Rattle.theory.specs.Column.{zeros}
 use Rattle.theory.specs.Grammar.{Text, Reading, read, refused}
 use Rattle.theory.specs.Read.{Due}
-use Rattle.theory.specs.Lines.{arc-line, state-line, listing, refusal-line}
+use Rattle.theory.specs.Lines.{arc_line, state_line, listing, refusal_line}
 use Rattle.lines.specs.declared.output.Written.{Written}
 use Rattle.lines.specs.Output.{Put, Wrote}
 use Rattle.theory.specs.Rooms
-use Rattle.site.specs.Site.{Shown, shown, entry-columns, site-refusal, unless-refused}
+use Rattle.site.specs.Site.{Shown, shown, entry_columns, site_refusal, unless_refused}
 
 -- ---- The room of a listing
 
 -- A state below the room for states has at most 3 digits, and so has a letter.
-abbrev pub arc-bytes : ℕ
-arc-bytes = 12
+abbrev pub arc_bytes : ℕ
+arc_bytes = 12
 
-abbrev pub state-bytes : ℕ
-state-bytes = 4
+abbrev pub state_bytes : ℕ
+state_bytes = 4
 
-abbrev pub listing-bytes : ℕ
-listing-bytes = Rooms.arcs * arc-bytes + Rooms.states * state-bytes
+abbrev pub listing_bytes : ℕ
+listing_bytes = Rooms.arcs * arc_bytes + Rooms.states * state_bytes
 
 -- The first n arcs lead from state to state of a site.
 pub record Narrow (c : ArcColumns) (n : ℕ) : Type 0 where
@@ -32,33 +32,33 @@ pub record Narrow (c : ArcColumns) (n : ℕ) : Type 0 where
 
 -- ---- Its lines
 
-unfoldable pub arc-lines : ArcColumns → ℕ → List ℕ
-unfolding flat_map first-arcs
-arc-lines c n = flat_map (λ (z : Arc). arc-line z.from z.to z.letter) (first-arcs c n)
+unfoldable pub arc_lines : ArcColumns → ℕ → List ℕ
+unfolding flat_map first_arcs
+arc_lines c n = flat_map (λ (z : Arc). arc_line z.from z.to z.letter) (first_arcs c n)
 
 -- What is printed of a state, by its accepting value.
-abbrev pub state-text : (flag s : ℕ) → List ℕ
-state-text flag s = cond (eqb flag 1) (state-line s) []
+abbrev pub state_text : (flag s : ℕ) → List ℕ
+state_text flag s = cond (eqb flag 1) (state_line s) []
 
-unfoldable pub state-lines : List ℕ → ℕ → List ℕ
+unfoldable pub state_lines : List ℕ → ℕ → List ℕ
 unfolding flat_map ascending
-state-lines flags n = flat_map (λ s. state-text (get_or flags s 0) s) (ascending 0 n)
+state_lines flags n = flat_map (λ s. state_text (get_or flags s 0) s) (ascending 0 n)
 
 -- ---- The answer
 
 -- The columns that the program lends.
-abbrev pub own-columns : Shown
-own-columns = shown (zeros Rooms.states) (zeros Rooms.arcs) (zeros Rooms.arcs) (zeros Rooms.arcs)
+abbrev pub own_columns : Shown
+own_columns = shown (zeros Rooms.states) (zeros Rooms.arcs) (zeros Rooms.arcs) (zeros Rooms.arcs)
 
 -- 01: "prints the automaton"; "Both print `refused R P` (number, place) on a refusal".
 unfoldable pub printed : Reading → List ℕ
-unfolding listing site-refusal
-printed (read e) = unless-refused (site-refusal e own-columns) (listing e) (refusal-line (site-refusal e own-columns))
-printed (refused r) = refusal-line r
+unfolding listing site_refusal
+printed (read e) = unless_refused (site_refusal e own_columns) (listing e) (refusal_line (site_refusal e own_columns))
+printed (refused r) = refusal_line r
 
 pub record Printed (text : Text) (bytes : List ℕ) : Type 0 where
   pub reading : Reading
-  pub due : Due text entry-columns reading
+  pub due : Due text entry_columns reading
   pub is : bytes ≡ printed reading
 
 -- What `list` owes: the used part of the block is the answer to the text.

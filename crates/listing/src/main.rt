@@ -1,13 +1,13 @@
 // Reads one expression line and prints its automaton in the AT&T/OpenFst text format (01, "Two programs").
 
 ghost use Rattle.std.specs.Prelude.{◌+◌, ◌*◌, ◌≤◌, ◌<◌, length};
-ghost use Rattle.theory.specs.Arcs.{arc-columns};
-ghost use Rattle.theory.specs.Lines.{arc-line};
+ghost use Rattle.theory.specs.Arcs.{arc_columns};
+ghost use Rattle.theory.specs.Lines.{arc_line};
 ghost use Rattle.theory.specs.Rooms;
-ghost use Rattle.theory.specs.Limit.{longest-text};
-ghost use Rattle.lines.specs.Input.{line-bytes, Whole};
+ghost use Rattle.theory.specs.Limit.{longest_text};
+ghost use Rattle.lines.specs.Input.{line_bytes, Whole};
 ghost use Rattle.lines.specs.Output.{Put, Wrote};
-ghost use Rattle.listing.specs.Listing.{arc-bytes, state-bytes, listing-bytes, Narrow, arc-lines, state-text, state-lines, Lists, Printed, Prints};
+ghost use Rattle.listing.specs.Listing.{arc_bytes, state_bytes, listing_bytes, Narrow, arc_lines, state_text, state_lines, Lists, Printed, Prints};
 
 use lines::input::{Input, Line};
 use lines::output;
@@ -20,9 +20,9 @@ const LISTING: usize = site::ARCS * 12 + site::STATES * 4;
 
 // 01: "arcs in table order as `from to label`".
 fn arc(block: &mut [u8], used: usize, from: u16, to: u16, letter: u8) -> usize
-    requires { (used + arc-bytes ≤ length block.old) × (from < Rooms.states) × (to < Rooms.states) }
-    ensures put { Put (arc-line from to letter) block.old used block.new result }
-    ensures upper_bound { result ≤ used + arc-bytes }
+    requires { (used + arc_bytes ≤ length block.old) × (from < Rooms.states) × (to < Rooms.states) }
+    ensures put { Put (arc_line from to letter) block.old used block.new result }
+    ensures upper_bound { result ≤ used + arc_bytes }
 {
     let from_put = output::number(block, used, from as usize, b' ');
     let to_put = output::number(block, from_put, to as usize, b' ');
@@ -30,11 +30,11 @@ fn arc(block: &mut [u8], used: usize, from: u16, to: u16, letter: u8) -> usize
 }
 
 fn arcs(block: &mut [u8], count: usize, from: &[u16], letter: &[u8], to: &[u16]) -> usize
-    requires arc_bytes_in_bounds { (count * arc-bytes ≤ length block.old) × (count ≤ length from.now) × (count ≤ length letter.now) × (count ≤ length to.now) }
-    requires narrow { Narrow (arc-columns from.now letter.now to.now) count }
-    ensures put { Put (arc-lines (arc-columns from.now letter.now to.now) count) block.old 0
+    requires arc_bytes_in_bounds { (count * arc_bytes ≤ length block.old) × (count ≤ length from.now) × (count ≤ length letter.now) × (count ≤ length to.now) }
+    requires narrow { Narrow (arc_columns from.now letter.now to.now) count }
+    ensures put { Put (arc_lines (arc_columns from.now letter.now to.now) count) block.old 0
         block.new result }
-    ensures upper_bound { result ≤ count * arc-bytes }
+    ensures upper_bound { result ≤ count * arc_bytes }
 {
     let mut used = 0;
     let mut i = 0;
@@ -47,9 +47,9 @@ fn arcs(block: &mut [u8], count: usize, from: &[u16], letter: &[u8], to: &[u16])
 
 // 01: "then each accepting state on its own line, ascending".
 fn states(block: &mut [u8], used: usize, count: usize, accepting: &[u8]) -> usize
-    requires { (used + count * state-bytes ≤ length block.old) × (count ≤ length accepting.now) × (count ≤ Rooms.states) }
-    ensures put { Put (state-lines accepting.now count) block.old used block.new result }
-    ensures upper_bound { result ≤ used + count * state-bytes }
+    requires { (used + count * state_bytes ≤ length block.old) × (count ≤ length accepting.now) × (count ≤ Rooms.states) }
+    ensures put { Put (state_lines accepting.now count) block.old used block.new result }
+    ensures upper_bound { result ≤ used + count * state_bytes }
 {
     let mut at = used;
     let mut i = 0;
@@ -61,9 +61,9 @@ fn states(block: &mut [u8], used: usize, count: usize, accepting: &[u8]) -> usiz
 }
 
 fn state(block: &mut [u8], used: usize, state: usize, accepting: u8) -> usize
-    requires { (used + state-bytes ≤ length block.old) × (state < Rooms.states) }
-    ensures put { Put (state-text accepting state) block.old used block.new result }
-    ensures upper_bound { result ≤ used + state-bytes }
+    requires { (used + state_bytes ≤ length block.old) × (state < Rooms.states) }
+    ensures put { Put (state_text accepting state) block.old used block.new result }
+    ensures upper_bound { result ≤ used + state_bytes }
 {
     if accepting == 1 {
         return output::number(block, used, state, b'\n');
@@ -73,7 +73,7 @@ fn state(block: &mut [u8], used: usize, state: usize, accepting: u8) -> usize
 
 // From the text's bytes to the answer's bytes.
 fn list(text: &[u8], block: &mut [u8]) -> usize
-    requires { listing-bytes ≤ length block.old }
+    requires { listing_bytes ≤ length block.old }
     ensures { Lists text.now block.old block.new result }
 {
     let mut accepting = [0u8; site::STATES];
@@ -105,8 +105,8 @@ fn hand_on(text: &[u8], bytes: &[u8]) -> Written
 
 // The answer to a line as it was taken, written out whole.
 fn print(line: Line, column: &[u8]) -> Written
-    requires { Whole longest-text line column.now }
-    ensures { Prints (line-bytes line column.now) result }
+    requires { Whole longest_text line column.now }
+    ensures { Prints (line_bytes line column.now) result }
 {
     let mut block = [0u8; LISTING];
     let text = lines::input::bytes(line, column);

@@ -9,12 +9,12 @@ use lib.Dec.{eqb}
 use Rattle.theory.specs.Language.{Word}
 use Rattle.theory.specs.Refusal.{refusal}
 use Rattle.theory.specs.Arcs.{start}
-use Rattle.theory.specs.Record.{Handed, Work, work, cleared, WellFormedAutomaton, verdict, live, matcher-refusal}
+use Rattle.theory.specs.Record.{Handed, Work, work, cleared, WellFormedAutomaton, verdict, live, matcher_refusal}
 use Rattle.theory.specs.Judge.{Judgement, given, withheld, judgement}
-use Rattle.theory.proofs.Answers.{judgement-given, judgement-refused}
-use Rattle.theory.proofs.MatcherRefusal.{place-zero, not-refused}
+use Rattle.theory.proofs.Answers.{judgement_given, judgement_refused}
+use Rattle.theory.proofs.MatcherRefusal.{place_zero, not_refused}
 use Rattle.sets.specs.Bits.{bit}
-use Rattle.sets.proofs.Digits.{none-set}
+use Rattle.sets.proofs.Digits.{none_set}
 use Rattle.matcher.specs.Moves.{Checked, Ready}
 
 -- ---- The columns
@@ -24,34 +24,34 @@ pub ready : (k : Work) {blank : Work} {current : List ℕ} → blank ≡ cleared
     → Ready (work current blank.next)
 unfolding start
 ready k z e = record {
-  started = λ t. e t ∙ ap (λ (b : Bool). b || eqb t 0) (none-set (length k.current) (ap (λ (b : Work). b.current) z) t);
-  clear = none-set (length k.next) (ap (λ (b : Work). b.next) z);
+  started = λ t. e t ∙ ap (λ (b : Bool). b || eqb t 0) (none_set (length k.current) (ap (λ (b : Work). b.current) z) t);
+  clear = none_set (length k.next) (ap (λ (b : Work). b.next) z);
 }
 
 -- ---- The automaton
 
-module _ (h : Handed) (k : Work) (z : (matcher-refusal h k).number ≡ 0) where
+module _ (h : Handed) (k : Work) (z : (matcher_refusal h k).number ≡ 0) where
   pub formed : WellFormedAutomaton h
-  formed = (not-refused h k z).1
+  formed = (not_refused h k z).1
 
   pub checked : Checked h.states h.arcs k
   checked =
-      let (even, good, enough) = not-refused h k z in
-      let long = good.arcs-long in
+      let (even, good, enough) = not_refused h k z in
+      let long = good.arcs_long in
       record {
-        some-state = good.some-state;
-        few-states = good.few-states;
+        some_state = good.some_state;
+        few_states = good.few_states;
         spans = record { from = long; letter = omega (arith, even.letter); to = omega (arith, even.to) };
-        from-below = good.from-below;
+        from_below = good.from_below;
         to_below = good.to_below;
         enough = enough;
       }
 
 -- ---- The judgement
 
-module _ (h : Handed) (k : Work) (w : Word) {number : ℕ} (e : number ≡ (matcher-refusal h k).number) where
-  pub judged-refused : (number ≡ 0 → ⊥) → withheld (refusal number 0) ≡ judgement h k w
-  judged-refused ne = ap withheld (ap₂ refusal e (sym (place-zero h k))) ∙ sym (judgement-refused h k w (λ q. ne (e ∙ q)))
+module _ (h : Handed) (k : Work) (w : Word) {number : ℕ} (e : number ≡ (matcher_refusal h k).number) where
+  pub judged_refused : (number ≡ 0 → ⊥) → withheld (refusal number 0) ≡ judgement h k w
+  judged_refused ne = ap withheld (ap₂ refusal e (sym (place_zero h k))) ∙ sym (judgement_refused h k w (λ q. ne (e ∙ q)))
 
-  pub judged-given : number ≡ 0 → {answer : Judgement} → answer ≡ given (verdict h w) (live h w) → answer ≡ judgement h k w
-  judged-given z a = a ∙ sym (judgement-given h k w (sym e ∙ z))
+  pub judged_given : number ≡ 0 → {answer : Judgement} → answer ≡ given (verdict h w) (live h w) → answer ≡ judgement h k w
+  judged_given z a = a ∙ sym (judgement_given h k w (sym e ∙ z))

@@ -11,13 +11,13 @@ use Rattle.theory.specs.Below.{some_below}
 use Rattle.theory.specs.Arcs.{ArcColumns, States, leaves, leads}
 use Rattle.theory.proofs.Below.{some_more}
 use Rattle.theory.proofs.Tests.{false_of}
-use Rattle.theory.proofs.Arcs.{leaves-iff, leads-iff}
+use Rattle.theory.proofs.Arcs.{leaves_iff, leads_iff}
 use Rattle.sets.specs.Bits.{bit}
 
 -- ---- One arc
 
-eqb-sym : (a b : ℕ) → eqb a b ≡ eqb b a
-eqb-sym a b = go (eqb b a) refl
+eqb_sym : (a b : ℕ) → eqb a b ≡ eqb b a
+eqb_sym a b = go (eqb b a) refl
   where
     go : (d : Bool) → eqb b a ≡ d → eqb a b ≡ d
     go true e = eq-eqb a b (sym (eqb-true b a e))
@@ -25,15 +25,15 @@ eqb-sym a b = go (eqb b a) refl
 
 module _ (c : ArcColumns) (s : States) (byte i : ℕ) where
   -- An arc that does not lead by the byte from a state of s leads nowhere.
-  leads-none : ((get_or c.letter i 0 ≡ byte) × (s (get_or c.from i 0) ≡ true) → ⊥) → (t : ℕ) → leads c s byte t i ≡ false
-  leads-none n t = false_of _ (λ e. n ((leaves-iff c s byte i).0 ((leads-iff c s byte i t).0 e).1))
+  leads_none : ((get_or c.letter i 0 ≡ byte) × (s (get_or c.from i 0) ≡ true) → ⊥) → (t : ℕ) → leads c s byte t i ≡ false
+  leads_none n t = false_of _ (λ e. n ((leaves_iff c s byte i).0 ((leads_iff c s byte i t).0 e).1))
 
-  leads-set : (get_or c.letter i 0 ≡ byte) × (s (get_or c.from i 0) ≡ true) → (t : ℕ) → leads c s byte t i ≡ eqb t (get_or c.to i 0)
+  leads_set : (get_or c.letter i 0 ≡ byte) × (s (get_or c.from i 0) ≡ true) → (t : ℕ) → leads c s byte t i ≡ eqb t (get_or c.to i 0)
   unfolding leads
-  leads-set h t = go (eqb (get_or c.to i 0) t) ∙ eqb-sym (get_or c.to i 0) t
+  leads_set h t = go (eqb (get_or c.to i 0) t) ∙ eqb_sym (get_or c.to i 0) t
     where
       go : (b : Bool) → elim b [ true ↦ leaves c s byte i | false ↦ false ] ≡ b
-      go true = (leaves-iff c s byte i).1 h
+      go true = (leaves_iff c s byte i).1 h
       go false = refl
 
 -- ---- The arcs below i
@@ -63,16 +63,16 @@ module _ {c : ArcColumns} {s : States} {byte : ℕ} {next₀ : List ℕ} where
     none_more : next' ≡ next → ((t : ℕ) → leads c s byte t i ≡ false) → Spread c s byte next₀ next' (i + 1)
     none_more k e = more (λ t. false) (ap length k) (λ t. ap (λ (l : List ℕ). bit l t) k ∙ sym (or-false (bit next t))) e
 
-    pub spread-other : next' ≡ next → (get_or c.letter i 0 ≡ byte → ⊥) → Spread c s byte next₀ next' (i + 1)
-    spread-other k n = none_more k (leads-none c s byte i (λ (l, _). n l))
+    pub spread_other : next' ≡ next → (get_or c.letter i 0 ≡ byte → ⊥) → Spread c s byte next₀ next' (i + 1)
+    spread_other k n = none_more k (leads_none c s byte i (λ (l, _). n l))
 
-    pub spread-unset : next' ≡ next → s (get_or c.from i 0) ≡ false → Spread c s byte next₀ next' (i + 1)
-    spread-unset k e = none_more k (leads-none c s byte i (λ (_, h). false≢true (sym e ∙ h)))
+    pub spread_unset : next' ≡ next → s (get_or c.from i 0) ≡ false → Spread c s byte next₀ next' (i + 1)
+    spread_unset k e = none_more k (leads_none c s byte i (λ (_, h). false≢true (sym e ∙ h)))
 
-    pub spread-set : get_or c.letter i 0 ≡ byte → s (get_or c.from i 0) ≡ true
+    pub spread_set : get_or c.letter i 0 ≡ byte → s (get_or c.from i 0) ≡ true
         → length next' ≡ length next → ((t : ℕ) → bit next' t ≡ (bit next t || eqb t (get_or c.to i 0)))
         → Spread c s byte next₀ next' (i + 1)
-    spread-set l e k h = more (λ t. eqb t (get_or c.to i 0)) k h (leads-set c s byte i (l, e))
+    spread_set l e k h = more (λ t. eqb t (get_or c.to i 0)) k h (leads_set c s byte i (l, e))
 
   pub spread_end : {next : List ℕ} {i n : ℕ} → Spread c s byte next₀ next i → i ≤ n → n ≤ i → Spread c s byte next₀ next n
   spread_end {next} r l m = subst (Spread c s byte next₀ next) (le_antisymm l m) r

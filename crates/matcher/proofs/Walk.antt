@@ -10,11 +10,11 @@ use lib.Dec.{ltb}
 use borrow.Author.Tests.{ltb-false}
 use Rattle.theory.specs.Language.{Word}
 use Rattle.theory.specs.Below.{some_below}
-use Rattle.theory.specs.Arcs.{Arcs, States, start, moved, after, reached, leads-on, dead-at}
+use Rattle.theory.specs.Arcs.{Arcs, States, start, moved, after, reached, leads_on, dead_at}
 use Rattle.theory.specs.Column.{zeros}
 use Rattle.theory.specs.Record.{Work, work, cleared, words}
-use Rattle.theory.proofs.Below.{some-cong}
-use Rattle.theory.proofs.Reached.{moved-cong, moved-below, leads-on-moved, after-take, after-below, start-below, dead-later, dead-here, dead-never}
+use Rattle.theory.proofs.Below.{some_cong}
+use Rattle.theory.proofs.Reached.{moved_cong, moved_below, leads_on_moved, after_take, after_below, start_below, dead_later, dead_here, dead_never}
 use Rattle.sets.specs.Bits.{bit}
 use Rattle.matcher.specs.Moves.{Inside, Checked, Ready, Ended}
 use Rattle.matcher.specs.declared.moves.Walked.TheVariants.{Whole, Dead}
@@ -25,30 +25,30 @@ pub record SameWork (k₀ k : Work) : Type 0 where
   pub current : length k.current ≡ length k₀.current
   pub next : length k.next ≡ length k₀.next
 
-pub same-work : {k : Work} → SameWork k k
-same-work = record { current = refl; next = refl }
+pub same_work : {k : Work} → SameWork k k
+same_work = record { current = refl; next = refl }
 
-pub cleared-same : {k₀ k : Work} → SameWork k₀ k → cleared k ≡ cleared k₀
-cleared-same same = λ i. work (zeros (same.current i)) (zeros (same.next i))
+pub cleared_same : {k₀ k : Work} → SameWork k₀ k → cleared k ≡ cleared k₀
+cleared_same same = λ i. work (zeros (same.current i)) (zeros (same.next i))
 
 module _ {n : ℕ} {a : Arcs} {k₀ k : Work} (h : Checked n a k₀) (same : SameWork k₀ k) where
   -- Only the lengths of the columns are checked.
-  pub checked-kept : Checked n a k
-  checked-kept = record {
-    some-state = h.some-state;
-    few-states = h.few-states;
+  pub checked_kept : Checked n a k
+  checked_kept = record {
+    some_state = h.some_state;
+    few_states = h.few_states;
     spans = h.spans;
-    from-below = h.from-below;
+    from_below = h.from_below;
     to_below = h.to_below;
     enough = record { current = rw same.current h.enough.current; next = rw same.next h.enough.next };
   }
 
   pub inside : Inside a k
   inside =
-      let enough = checked-kept.enough in
+      let enough = checked_kept.enough in
       record {
         spans = h.spans;
-        from-held = λ i l. let below = h.from-below i l in let room = enough.current in omega arith;
+        from_held = λ i l. let below = h.from_below i l in let room = enough.current in omega arith;
         to_held = λ i l. let below = h.to_below i l in let room = enough.next in omega arith;
       }
 
@@ -62,7 +62,7 @@ so_far a w p = after a start (take p w)
 pub record Walk (a : Arcs) (w : Word) (k : Work) (p : ℕ) : Type 0 where
   pub set : (t : ℕ) → bit k.current t ≡ so_far a w p t
   pub clear : (t : ℕ) → bit k.next t ≡ false
-  pub rest : dead-at a start 0 w ≡ dead-at a (so_far a w p) p (drop p w)
+  pub rest : dead_at a start 0 w ≡ dead_at a (so_far a w p) p (drop p w)
 
 pub walk_start : {a : Arcs} {w : Word} {k : Work} → Ready k → Walk a w k 0
 unfolding after
@@ -71,10 +71,10 @@ walk_start r = record { set = r.started; clear = r.clear; rest = refl }
 pub walk_at : {a : Arcs} {w : Word} {k : Work} {p q : ℕ} → p ≡ q → Walk a w k p → Walk a w k q
 walk_at {a} {w} {k} e r = subst (Walk a w k) e r
 
-pub walk-whole : {a : Arcs} {w : Word} {k : Work} {p : ℕ} → Walk a w k p → length w ≤ p → Ended a w Whole k.current
+pub walk_whole : {a : Arcs} {w : Word} {k : Work} {p : ℕ} → Walk a w k p → length w ≤ p → Ended a w Whole k.current
 unfolding reached
-walk-whole {a} {w} {p = p} r l = record {
-  place = sym (r.rest ∙ dead-never a (so_far a w p) w p l);
+walk_whole {a} {w} {p = p} r l = record {
+  place = sym (r.rest ∙ dead_never a (so_far a w p) w p l);
   set = λ _ t. r.set t ∙ ap (λ (v : Word). after a start v t) (take_all p w l);
 }
 
@@ -84,11 +84,11 @@ walk-whole {a} {w} {p = p} r l = record {
 pub record Turn (a : Arcs) (s : States) (b : ℕ) (k : Work) (any : Bool) : Type 0 where
   pub set : (t : ℕ) → bit k.current t ≡ moved a s b t
   pub clear : (t : ℕ) → bit k.next t ≡ false
-  pub on : any ≡ leads-on a s b
+  pub on : any ≡ leads_on a s b
 
 module _ {n : ℕ} {a : Arcs} {w : Word} {k₀ k : Work} {p : ℕ} (h : Checked n a k₀) (r : Walk a w k p) where
   beyond : (t : ℕ) → n ≤ t → bit k.current t ≡ false
-  beyond t l = r.set t ∙ after-below a h.to_below start (start-below n h.some-state) (take p w) t l
+  beyond t l = r.set t ∙ after_below a h.to_below start (start_below n h.some_state) (take p w) t l
 
   -- The ends of the arcs that lead by the byte are set in `filled`, of which the first m words are then handed over.
   pub one_byte : {m : ℕ} → m ≡ words n → {b b' : ℕ} → b' ≡ b → (filled : List ℕ) {k' : Work} {any : Bool}
@@ -101,44 +101,44 @@ module _ {n : ℕ} {a : Arcs} {w : Word} {k₀ k : Work} {p : ℕ} (h : Checked 
     set = λ t. c t ∙ choose t (ltb (t / 64) m) refl;
     clear = λ t. e t ∙ empty t (ltb (t / 64) m) refl;
     on =
-        s ∙ some-cong (m * 64) (bit filled) (moved a (so_far a w p) b') (λ t _. set_there t)
-        ∙ leads-on-moved a h.to_below (m * 64) (omega arith) (so_far a w p) b';
+        s ∙ some_cong (m * 64) (bit filled) (moved a (so_far a w p) b') (λ t _. set_there t)
+        ∙ leads_on_moved a h.to_below (m * 64) (omega arith) (so_far a w p) b';
   }
     where
       set_there : (t : ℕ) → bit filled t ≡ moved a (so_far a w p) b' t
       set_there t =
-          f t ∙ ap (λ (d : Bool). d || moved a (bit k.current) b t) (r.clear t) ∙ moved-cong a (bit k.current) (so_far a w p) r.set b t
+          f t ∙ ap (λ (d : Bool). d || moved a (bit k.current) b t) (r.clear t) ∙ moved_cong a (bit k.current) (so_far a w p) r.set b t
           ∙ ap (λ (x : ℕ). moved a (so_far a w p) x t) (sym same)
 
-      none-far : (t : ℕ) → n ≤ t → moved a (so_far a w p) b' t ≡ false
-      none-far = moved-below a h.to_below (so_far a w p) b'
+      none_far : (t : ℕ) → n ≤ t → moved a (so_far a w p) b' t ≡ false
+      none_far = moved_below a h.to_below (so_far a w p) b'
 
       far : (t : ℕ) → ltb (t / 64) m ≡ false → n ≤ t
       far t q = let l = ltb-false (t / 64) m q in omega arith
 
       choose : (t : ℕ) (d : Bool) → ltb (t / 64) m ≡ d → cond d (bit filled t) (bit k.current t) ≡ moved a (so_far a w p) b' t
       choose t true q = set_there t
-      choose t false q = beyond t (far t q) ∙ sym (none-far t (far t q))
+      choose t false q = beyond t (far t q) ∙ sym (none_far t (far t q))
 
       empty : (t : ℕ) (d : Bool) → ltb (t / 64) m ≡ d → cond d false (bit filled t) ≡ false
       empty t true q = refl
-      empty t false q = set_there t ∙ none-far t (far t q)
+      empty t false q = set_there t ∙ none_far t (far t q)
 
 module _ {a : Arcs} {w : Word} {k k' : Work} {p : ℕ} {any : Bool} (r : Walk a w k p) (l : p < length w)
     (m : Turn a (so_far a w p) (get_or w p 0) k' any) where
   pub walk_more : any ≡ true → Walk a w k' (p + 1)
   walk_more e =
-      let step = after-take a start w p l in
+      let step = after_take a start w p l in
       record {
         set = λ t. m.set t ∙ sym (ap (λ (s : States). s t) step);
         clear = m.clear;
         rest =
-            r.rest ∙ dead-later a (so_far a w p) w p l (sym m.on ∙ e)
-            ∙ ap (λ (s : States). dead-at a s (p + 1) (drop (p + 1) w)) (sym step);
+            r.rest ∙ dead_later a (so_far a w p) w p l (sym m.on ∙ e)
+            ∙ ap (λ (s : States). dead_at a s (p + 1) (drop (p + 1) w)) (sym step);
       }
 
-  pub walk-dead : any ≡ false → Ended a w (Dead p) k'.current
-  walk-dead e = record {
-    place = sym (r.rest ∙ dead-here a (so_far a w p) w p l (sym m.on ∙ e));
+  pub walk_dead : any ≡ false → Ended a w (Dead p) k'.current
+  walk_dead e = record {
+    place = sym (r.rest ∙ dead_here a (so_far a w p) w p l (sym m.on ∙ e));
     set = λ q. absurd (let z : ◌≡◌ {A = ℕ} 0 1 = cc in omega arith);
   }

@@ -1,9 +1,9 @@
 -- What the functions of `moves` ask of the columns, and what a walk over a record finds.
 use Rattle.std.specs.Prelude.{ℕ, ◌/◌, ◌≤◌, ◌<◌, ◌≡◌, false, List, length, get_or}
 use Rattle.std.proofs.Math.Option.{Option, none, some}
-use Rattle.theory.specs.Limit.{most-states}
+use Rattle.theory.specs.Limit.{most_states}
 use Rattle.theory.specs.Language.{Word}
-use Rattle.theory.specs.Arcs.{Arcs, Spans, start, reached, dead-at}
+use Rattle.theory.specs.Arcs.{Arcs, Spans, start, reached, dead_at}
 use Rattle.theory.specs.Record.{Handed, Work, LongEnough, verdict, live}
 use Rattle.theory.specs.Judge.{Judgement, given}
 use Rattle.sets.specs.Bits.{bit}
@@ -13,15 +13,15 @@ use Rattle.matcher.specs.declared.moves.Walked.TheVariants.{Whole, Dead}
 -- The used arcs stand in the columns, and the words hold a bit for each of their ends.
 pub record Inside (a : Arcs) (k : Work) : Type 0 where
   pub spans : Spans a.columns a.count
-  pub from-held : (i : ℕ) → i < a.count → get_or a.columns.from i 0 / 64 < length k.current
+  pub from_held : (i : ℕ) → i < a.count → get_or a.columns.from i 0 / 64 < length k.current
   pub to_held : (i : ℕ) → i < a.count → get_or a.columns.to i 0 / 64 < length k.next
 
 -- What moves ask of an automaton that is not refused, and of its work columns. No move looks at the accepting column.
 pub record Checked (states : ℕ) (a : Arcs) (k : Work) : Type 0 where
-  pub some-state : 0 < states
-  pub few-states : states ≤ most-states
+  pub some_state : 0 < states
+  pub few_states : states ≤ most_states
   pub spans : Spans a.columns a.count
-  pub from-below : (i : ℕ) → i < a.count → get_or a.columns.from i 0 < states
+  pub from_below : (i : ℕ) → i < a.count → get_or a.columns.from i 0 < states
   pub to_below : (i : ℕ) → i < a.count → get_or a.columns.to i 0 < states
   pub enough : LongEnough k states
 
@@ -37,7 +37,7 @@ place_of (Dead p) = some p
 
 -- A walk ends at the first byte after which no state is reached, or with the states that the whole record reaches.
 pub record Ended (a : Arcs) (w : Word) (r : Walked) (current : List ℕ) : Type 0 where
-  pub place : place_of r ≡ dead-at a start 0 w
+  pub place : place_of r ≡ dead_at a start 0 w
   pub set : r ≡ Whole → (t : ℕ) → bit current t ≡ reached a w t
 
 -- What a walk's end says, whatever the arcs between these states and the record: the verdict with live.

@@ -1,12 +1,12 @@
 // Refusals 1, 10 and 11: what an automaton that is handed over must be.
 
 ghost use Rattle.std.specs.Prelude.{◌≡◌, ◌≤◌, length};
-ghost use Rattle.theory.specs.Arcs.{arc-columns, counted};
-ghost use Rattle.theory.specs.Record.{handed, work, accepting-fits, ends-fit, matcher-refusal};
+ghost use Rattle.theory.specs.Arcs.{arc_columns, counted};
+ghost use Rattle.theory.specs.Record.{handed, work, accepting_fits, ends_fit, matcher_refusal};
 
 fn accepting_fits(states: usize, accepting: &[u8]) -> bool
     requires { states ≤ length accepting.now }
-    ensures { result ≡ accepting-fits states accepting.now }
+    ensures { result ≡ accepting_fits states accepting.now }
 {
     let mut fit = true;
     let mut t = 0;
@@ -19,7 +19,7 @@ fn accepting_fits(states: usize, accepting: &[u8]) -> bool
 
 fn ends_fit(states: usize, arcs: usize, from: &[u16], letter: &[u8], to: &[u16]) -> bool
     requires { (arcs ≤ length from.now) × (arcs ≤ length letter.now) × (arcs ≤ length to.now) }
-    ensures { result ≡ ends-fit (counted arcs (arc-columns from.now letter.now to.now)) states }
+    ensures { result ≡ ends_fit (counted arcs (arc_columns from.now letter.now to.now)) states }
 {
     let mut fit = true;
     let mut i = 0;
@@ -43,8 +43,8 @@ pub fn refusal(
     next: &[u64],
 ) -> u8
     ensures { result
-        ≡ (matcher-refusal
-        (handed states accepting.now arcs (arc-columns from.now letter.now to.now))
+        ≡ (matcher_refusal
+        (handed states accepting.now arcs (arc_columns from.now letter.now to.now))
         (work current.now next.now)).number }
 {
     let even = (letter.len() == from.len()) & (to.len() == from.len());

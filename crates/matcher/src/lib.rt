@@ -4,7 +4,7 @@ mod checks;
 mod moves;
 
 ghost use Rattle.std.specs.Prelude.{◌≡◌};
-ghost use Rattle.theory.specs.Arcs.{arc-columns};
+ghost use Rattle.theory.specs.Arcs.{arc_columns};
 ghost use Rattle.theory.specs.Record.{handed, work, cleared};
 ghost use Rattle.theory.specs.Judge.{Judged};
 ghost use Rattle.matcher.specs.Answer.{values};
@@ -37,7 +37,7 @@ pub fn judge(
     current: &mut [u64],
     next: &mut [u64],
 ) -> Judgement
-    ensures { Judged (handed states accepting.now arcs (arc-columns from.now letter.now to.now))
+    ensures { Judged (handed states accepting.now arcs (arc_columns from.now letter.now to.now))
         «record».now (work current.old next.old) (values result) (work current.new next.new) }
 {
     let number = checks::refusal(states, accepting, arcs, from, letter, to, current, next);

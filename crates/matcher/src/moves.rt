@@ -1,9 +1,9 @@
 // The states that a record reaches, byte by byte.
 
 ghost use Rattle.std.specs.Prelude.{◌≡◌, ◌&&◌, ◌||◌, ℕ, ◌≤◌, length, get_or, eqb};
-ghost use Rattle.theory.specs.Limit.{most-states};
+ghost use Rattle.theory.specs.Limit.{most_states};
 ghost use Rattle.theory.specs.Below.{some_below};
-ghost use Rattle.theory.specs.Arcs.{arc-columns, counted, moved};
+ghost use Rattle.theory.specs.Arcs.{arc_columns, counted, moved};
 ghost use Rattle.theory.specs.Record.{work, words};
 ghost use Rattle.sets.specs.Bits.{bit};
 ghost use Rattle.matcher.specs.Moves.{Inside, Checked, Ready, Ended, Answers};
@@ -21,10 +21,10 @@ fn spread(
     current: &[u64],
     next: &mut [u64],
 )
-    requires { Inside (counted arcs (arc-columns from.now letter.now to.now)) (work current.now next.old) }
+    requires { Inside (counted arcs (arc_columns from.now letter.now to.now)) (work current.now next.old) }
     ensures { (t : ℕ) → bit next.new t
         ≡ (bit next.old t
-        || moved (counted arcs (arc-columns from.now letter.now to.now)) (bit current.now) byte t) }
+        || moved (counted arcs (arc_columns from.now letter.now to.now)) (bit current.now) byte t) }
 {
     let mut i = 0;
     while i < arcs {
@@ -54,9 +54,9 @@ pub fn walk(
     current: &mut [u64],
     next: &mut [u64],
 ) -> Walked
-    requires checked { Checked states (counted arcs (arc-columns from.now letter.now to.now)) (work current.old next.old) }
+    requires checked { Checked states (counted arcs (arc_columns from.now letter.now to.now)) (work current.old next.old) }
     requires ready { Ready (work current.old next.old) }
-    ensures { Ended (counted arcs (arc-columns from.now letter.now to.now)) «record».now result
+    ensures { Ended (counted arcs (arc_columns from.now letter.now to.now)) «record».now result
         current.new }
 {
     let words = sets::words(states);
@@ -89,7 +89,7 @@ fn accepts(states: usize, accepting: &[u8], current: &[u64]) -> bool
 
 // What the end of a walk says, whatever the arcs and the record that it went along.
 pub fn answer(walked: Walked, states: usize, accepting: &[u8], current: &[u64]) -> super::Judgement
-    requires { (states ≤ most-states) × (states ≤ length accepting.now) × (words states ≤ length current.now) }
+    requires { (states ≤ most_states) × (states ≤ length accepting.now) × (words states ≤ length current.now) }
     ensures { Answers states accepting.now walked current.now (values result) }
 {
     match walked {

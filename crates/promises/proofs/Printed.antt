@@ -12,21 +12,21 @@ use Rattle.theory.specs.Expression.{Expression, same}
 use Rattle.theory.specs.Distinct.{distinct, without, place}
 use Rattle.theory.specs.Derivative.{derivative}
 use Rattle.theory.specs.Automaton.{ascending, alphabet, states, itself, accepting, Arc, arc, arcs}
-use Rattle.theory.specs.Meetings.{Meeting, meeting, by-letters, by-states, meetings, so_far, to-arc}
+use Rattle.theory.specs.Meetings.{Meeting, meeting, by_letters, by_states, meetings, so_far, to_arc}
 use Rattle.theory.specs.Record.{automaton, verdict, live}
-use Rattle.theory.specs.Lines.{space, newline, decimal, number-and, arc-line, state-line, listing}
-use Rattle.theory.proofs.Members.{flatMap-of}
-use Rattle.theory.proofs.States.{states-first, states-only}
-use Rattle.theory.proofs.Meetings.{arcs-met, so-far-met}
+use Rattle.theory.specs.Lines.{space, newline, decimal, number_and, arc_line, state_line, listing}
+use Rattle.theory.proofs.Members.{flatMap_of}
+use Rattle.theory.proofs.States.{states_first, states_only}
+use Rattle.theory.proofs.Meetings.{arcs_met, so_far_met}
 use Rattle.promises.specs.Printed.{Printed, BeginsAtZero, State0First}
 
 pub printed : Printed
 unfolding listing decimal automaton verdict live
 printed = record {
-  two-letters = refl;
-  listed-in-order = refl;
-  empty-language = refl;
-  empty-word = refl;
+  two_letters = refl;
+  listed_in_order = refl;
+  empty_language = refl;
+  empty_word = refl;
   whole = refl;
   start = refl;
   fault = refl;
@@ -36,72 +36,72 @@ printed = record {
 -- ---- State 0 first
 
 -- What is met from state i is from state i.
-met-from : (i : ℕ) (x : Expression) (ls : List ℕ) {m : Meeting} → Memᴰ m (by-letters i x ls) → m.from ≡ i
-unfolding by-letters
-met-from i x ls h =
-    let (a, _, k) = flatMap-of (λ a. map (meeting i a) (derivative a x)) ls h in
+met_from : (i : ℕ) (x : Expression) (ls : List ℕ) {m : Meeting} → Memᴰ m (by_letters i x ls) → m.from ≡ i
+unfolding by_letters
+met_from i x ls h =
+    let (a, _, k) = flatMap_of (λ a. map (meeting i a) (derivative a x)) ls h in
     let (_, _, q) = Memᴰ.of_map (meeting i a) (derivative a x) k in
     sym (ap (λ (m : Meeting). m.from) q)
 
-abbrev arc-lines : List Arc → List ℕ
-arc-lines zs = flat_map (λ (z : Arc). arc-line z.from z.to z.letter) zs
+abbrev arc_lines : List Arc → List ℕ
+arc_lines zs = flat_map (λ (z : Arc). arc_line z.from z.to z.letter) zs
 
 module _ (e : Expression) where
   -- The lines of the accepting states among the first n.
-  abbrev state-lines : ℕ → List ℕ
-  state-lines n = flat_map (λ s. cond (eqb (get_or (accepting e) s 0) 1) (state-line s) []) (ascending 0 n)
+  abbrev state_lines : ℕ → List ℕ
+  state_lines n = flat_map (λ s. cond (eqb (get_or (accepting e) s 0) 1) (state_line s) []) (ascending 0 n)
 
   -- Where something is met from state 0, the first of all arcs leaves it.
-  first-arc : (m : Meeting) (ms : List Meeting) → by-letters 0 e alphabet ≡ m ∷ ms → (j a : ℕ) × (zs : List Arc) × (arcs e ≡ arc 0 a j ∷ zs)
-  unfolding by-states
-  first-arc m ms q =
+  first_arc : (m : Meeting) (ms : List Meeting) → by_letters 0 e alphabet ≡ m ∷ ms → (j a : ℕ) × (zs : List Arc) × (arcs e ≡ arc 0 a j ∷ zs)
+  unfolding by_states
+  first_arc m ms q =
       let s = states e in
-      let all = ms ++ by-states 1 (states-first e).rest in
-      let met : meetings e ≡ m ∷ all = ap (by-states 0) (states-first e).goes_on ∙ ap (λ ns. ns ++ by-states 1 (states-first e).rest) q in
-      let from : m.from ≡ 0 = met-from 0 e alphabet (subst (Memᴰ m) (sym q) (Memᴰ.head refl)) in (
+      let all = ms ++ by_states 1 (states_first e).rest in
+      let met : meetings e ≡ m ∷ all = ap (by_states 0) (states_first e).goes_on ∙ ap (λ ns. ns ++ by_states 1 (states_first e).rest) q in
+      let from : m.from ≡ 0 = met_from 0 e alphabet (subst (Memᴰ m) (sym q) (Memᴰ.head refl)) in (
         place same m.target s,
         m.letter,
-        map (to-arc s) all,
-        arcs-met e ∙ ap (map (to-arc s)) met ∙ ap (λ (i : ℕ). arc i m.letter (place same m.target s) ∷ map (to-arc s) all) from,
+        map (to_arc s) all,
+        arcs_met e ∙ ap (map (to_arc s)) met ∙ ap (λ (i : ℕ). arc i m.letter (place same m.target s) ∷ map (to_arc s) all) from,
       )
 
-  begins-by-arc : (j a : ℕ) (zs : List Arc) → arcs e ≡ arc 0 a j ∷ zs → BeginsAtZero (listing e)
+  begins_by_arc : (j a : ℕ) (zs : List Arc) → arcs e ≡ arc 0 a j ∷ zs → BeginsAtZero (listing e)
   unfolding listing flat_map decimal
-  begins-by-arc j a zs q = record {
+  begins_by_arc j a zs q = record {
     after = space;
-    rest = ((number-and j space ++ number-and a newline) ++ arc-lines zs) ++ state-lines (length (states e));
-    begins = ap (λ all. arc-lines all ++ state-lines (length (states e))) q;
+    rest = ((number_and j space ++ number_and a newline) ++ arc_lines zs) ++ state_lines (length (states e));
+    begins = ap (λ all. arc_lines all ++ state_lines (length (states e))) q;
     ends = inl refl;
   }
 
   -- Where nothing is met from state 0, it is the only state and has the only line, if it accepts.
-  module _ (none : by-letters 0 e alphabet ≡ []) where
-    none-met : by-states 0 (e ∷ []) ≡ []
-    unfolding by-states
-    none-met = append-nil (by-letters 0 e alphabet) ∙ none
+  module _ (none : by_letters 0 e alphabet ≡ []) where
+    none_met : by_states 0 (e ∷ []) ≡ []
+    unfolding by_states
+    none_met = append-nil (by_letters 0 e alphabet) ∙ none
 
-    only-state : e ∷ [] ≡ states e
+    only_state : e ∷ [] ≡ states e
     unfolding so_far distinct without
-    only-state = states-only e (e ∷ []) (sym (so-far-met e (e ∷ [])) ∙ ap (so_far e) none-met) (λ m h. itself (Memᴰ.eq_of_singleton h))
+    only_state = states_only e (e ∷ []) (sym (so_far_met e (e ∷ [])) ∙ ap (so_far e) none_met) (λ m h. itself (Memᴰ.eq_of_singleton h))
 
-    no-arcs : arcs e ≡ []
-    no-arcs = arcs-met e ∙ ap (map (to-arc (states e))) (ap (by-states 0) (sym only-state) ∙ none-met)
+    no_arcs : arcs e ≡ []
+    no_arcs = arcs_met e ∙ ap (map (to_arc (states e))) (ap (by_states 0) (sym only_state) ∙ none_met)
 
-    only-line : listing e ≡ state-lines 1
+    only_line : listing e ≡ state_lines 1
     unfolding listing flat_map
-    only-line = ap₂ (λ zs n. arc-lines zs ++ state-lines n) no-arcs (sym (ap length only-state))
+    only_line = ap₂ (λ zs n. arc_lines zs ++ state_lines n) no_arcs (sym (ap length only_state))
 
-    begins-by-state : ¬ (listing e ≡ []) → BeginsAtZero (listing e)
+    begins_by_state : ¬ (listing e ≡ []) → BeginsAtZero (listing e)
     unfolding flat_map ascending decimal
-    begins-by-state some = go (eqb (get_or (accepting e) 0 0) 1) only-line
+    begins_by_state some = go (eqb (get_or (accepting e) 0 0) 1) only_line
       where
-        go : (b : Bool) → listing e ≡ cond b (state-line 0) [] ++ [] → BeginsAtZero (listing e)
+        go : (b : Bool) → listing e ≡ cond b (state_line 0) [] ++ [] → BeginsAtZero (listing e)
         go true q = record { after = newline; rest = []; begins = q; ends = inr refl }
         go false q = absurd (some q)
 
-  begins : ¬ (listing e ≡ []) → (ms : List Meeting) → by-letters 0 e alphabet ≡ ms → BeginsAtZero (listing e)
-  begins some [] none = begins-by-state none some
-  begins some (m ∷ ms) q = let (j, a, zs, first) = first-arc m ms q in begins-by-arc j a zs first
+  begins : ¬ (listing e ≡ []) → (ms : List Meeting) → by_letters 0 e alphabet ≡ ms → BeginsAtZero (listing e)
+  begins some [] none = begins_by_state none some
+  begins some (m ∷ ms) q = let (j, a, zs, first) = first_arc m ms q in begins_by_arc j a zs first
 
-pub state-0-first : State0First
-state-0-first = record { first = λ e some. begins e some (by-letters 0 e alphabet) refl }
+pub state_0_first : State0First
+state_0_first = record { first = λ e some. begins e some (by_letters 0 e alphabet) refl }

@@ -6,9 +6,9 @@ use mathlib.Core.Logic.{◌↔◌, ◌⊎◌, inl, inr, ⊎_elim}
 use lib.Dec.{T, leb}
 use borrow.Author.Tests.{leb-true, le-leb}
 use Rattle.theory.specs.Expression.{letter}
-use Rattle.theory.specs.Table.{tree, kind-of-sign, table-refusal}
-use Rattle.theory.specs.Grammar.{is-letter, written, Writable, rows, sign-byte}
-use Rattle.theory.proofs.Tests.{or-true, or-of}
+use Rattle.theory.specs.Table.{tree, kind_of_sign, table_refusal}
+use Rattle.theory.specs.Grammar.{is_letter, written, Writable, rows, sign_byte}
+use Rattle.theory.proofs.Tests.{or_true, or_of}
 use Rattle.promises.specs.Tables.{TablesMean, TablesRefused}
 
 -- What is true and a test that passes.
@@ -23,58 +23,58 @@ passes false e = absurd (false≢true e)
 between : (l b h : ℕ) → (leb l b && leb b h) ≡ true → (l ≤ b) × (b ≤ h)
 between l b h e = let (p, q) = (and-eq-true_iff (leb l b) (leb b h)).0 e in (leb-true _ _ p, leb-true _ _ q)
 
-between-of : (l b h : ℕ) → (l ≤ b) × (b ≤ h) → (leb l b && leb b h) ≡ true
-between-of l b h (p, q) = rw (le-leb _ _ p, le-leb _ _ q)
+between_of : (l b h : ℕ) → (l ≤ b) × (b ≤ h) → (leb l b && leb b h) ≡ true
+between_of l b h (p, q) = rw (le-leb _ _ p, le-leb _ _ q)
 
-letter-bytes : (b : ℕ) → Writable (letter b) ↔ (((65 ≤ b) × (b ≤ 90)) ⊎ ((97 ≤ b) × (b ≤ 122)))
-unfolding is-letter
-letter-bytes b = (
-  λ t. ⊎_elim (λ e. inl (between 65 b 90 e)) (λ e. inr (between 97 b 122 e)) (or-true (leb 65 b && leb b 90) _ (passed (is-letter b) t)),
-  λ h. passes (is-letter b)
-      (or-of (leb 65 b && leb b 90) (leb 97 b && leb b 122) (⊎_elim (λ p. inl (between-of 65 b 90 p)) (λ p. inr (between-of 97 b 122 p)) h)),
+letter_bytes : (b : ℕ) → Writable (letter b) ↔ (((65 ≤ b) × (b ≤ 90)) ⊎ ((97 ≤ b) × (b ≤ 122)))
+unfolding is_letter
+letter_bytes b = (
+  λ t. ⊎_elim (λ e. inl (between 65 b 90 e)) (λ e. inr (between 97 b 122 e)) (or_true (leb 65 b && leb b 90) _ (passed (is_letter b) t)),
+  λ h. passes (is_letter b)
+      (or_of (leb 65 b && leb b 90) (leb 97 b && leb b 122) (⊎_elim (λ p. inl (between_of 65 b 90 p)) (λ p. inr (between_of 97 b 122 p)) h)),
 )
 
-pub tables-mean : TablesMean
-unfolding tree written rows kind-of-sign sign-byte
-tables-mean = record {
+pub tables_mean : TablesMean
+unfolding tree written rows kind_of_sign sign_byte
+tables_mean = record {
   kind_0 = refl;
   kind_1 = refl;
   kind_2 = λ a. refl;
   kind_3 = refl;
-  kind-4 = refl;
-  kind-5 = refl;
-  kind-6 = refl;
-  reads-0 = record { spelled = refl; entries = refl };
-  reads-1 = record { spelled = refl; entries = refl };
-  reads-union = record { spelled = refl; entries = refl };
-  reads-concatenation = record { spelled = refl; entries = refl };
-  reads-shuffle = record { spelled = refl; entries = refl };
-  reads-star = record { spelled = refl; entries = refl };
-  letters = letter-bytes;
+  kind_4 = refl;
+  kind_5 = refl;
+  kind_6 = refl;
+  reads_0 = record { spelled = refl; entries = refl };
+  reads_1 = record { spelled = refl; entries = refl };
+  reads_union = record { spelled = refl; entries = refl };
+  reads_concatenation = record { spelled = refl; entries = refl };
+  reads_shuffle = record { spelled = refl; entries = refl };
+  reads_star = record { spelled = refl; entries = refl };
+  letters = letter_bytes;
 }
 
-pub tables-refused : TablesRefused
-unfolding table-refusal
-tables-refused = record {
-  left-short = refl;
-  right-long = refl;
-  no-entry = refl;
-  entries-513 = refl;
-  entries-512 = refl;
-  kind-7 = refl;
-  letter-0 = refl;
-  letter-1 = refl;
-  letter-255 = refl;
-  letter-256 = refl;
-  letter-right = refl;
-  empty-language-left = refl;
-  empty-language-right = refl;
-  empty-word-left = refl;
-  empty-word-right = refl;
-  star-right = refl;
-  child-itself = refl;
-  child-right = refl;
-  empty-language-inside = refl;
-  named-twice = refl;
-  named-never = refl;
+pub tables_refused : TablesRefused
+unfolding table_refusal
+tables_refused = record {
+  left_short = refl;
+  right_long = refl;
+  no_entry = refl;
+  entries_513 = refl;
+  entries_512 = refl;
+  kind_7 = refl;
+  letter_0 = refl;
+  letter_1 = refl;
+  letter_255 = refl;
+  letter_256 = refl;
+  letter_right = refl;
+  empty_language_left = refl;
+  empty_language_right = refl;
+  empty_word_left = refl;
+  empty_word_right = refl;
+  star_right = refl;
+  child_itself = refl;
+  child_right = refl;
+  empty_language_inside = refl;
+  named_twice = refl;
+  named_never = refl;
 }

@@ -11,53 +11,53 @@ use borrow.Author.Tests.{eqb-true, eq-eqb, leb-true, le-leb}
 use Rattle.theory.specs.Expression as Expression
 use Rattle.theory.specs.Expression.{Sign}
 use Rattle.theory.specs.Table as Tested
-use Rattle.theory.specs.Table.{Table, Row, row, size, Meaning, ∅-kind, ε-kind, letter-kind, sign-kind, star-kind, unknown-kind, meaning, kind-of-sign, fields_fit, children, row-children}
-use Rattle.theory.proofs.Meaning.{Numbered, numbered, meaning-is}
-use Rattle.promises.specs.Table.{FieldsFit, empty-language, empty-word, letter, union, concatenation, shuffle, star, ChildOf, left, right, Faultless, WellFormed, TablesTested}
+use Rattle.theory.specs.Table.{Table, Row, row, size, Meaning, ∅-kind, ε_kind, letter_kind, sign_kind, star_kind, unknown_kind, meaning, kind_of_sign, fields_fit, children, row_children}
+use Rattle.theory.proofs.Meaning.{Numbered, numbered, meaning_is}
+use Rattle.promises.specs.Table.{FieldsFit, empty_language, empty_word, letter, union, concatenation, shuffle, star, ChildOf, left, right, Faultless, WellFormed, TablesTested}
 
 module _ (w : Row) where
   -- ---- The fields that hold no child
 
-  fits-sign : (s : Sign) → w.kind ≡ kind-of-sign s → FieldsFit w
-  unfolding kind-of-sign
-  fits-sign Expression.union e = union e
-  fits-sign Expression.concatenation e = concatenation e
-  fits-sign Expression.shuffle e = shuffle e
+  fits_sign : (s : Sign) → w.kind ≡ kind_of_sign s → FieldsFit w
+  unfolding kind_of_sign
+  fits_sign Expression.union e = union e
+  fits_sign Expression.concatenation e = concatenation e
+  fits_sign Expression.shuffle e = shuffle e
 
-  fits-of : (m : Meaning) → Numbered m w.kind → w.kind ≤ 6 → fields_fit m w.left w.right ≡ true → FieldsFit w
+  fits_of : (m : Meaning) → Numbered m w.kind → w.kind ≤ 6 → fields_fit m w.left w.right ≡ true → FieldsFit w
   unfolding fields_fit
-  fits-of ∅-kind k l e = let (p, q) = (and-eq-true_iff _ _).0 e in empty-language k (eqb-true _ _ p) (eqb-true _ _ q)
-  fits-of ε-kind k l e = let (p, q) = (and-eq-true_iff _ _).0 e in empty-word k (eqb-true _ _ p) (eqb-true _ _ q)
-  fits-of letter-kind k l e =
+  fits_of ∅-kind k l e = let (p, q) = (and-eq-true_iff _ _).0 e in empty_language k (eqb-true _ _ p) (eqb-true _ _ q)
+  fits_of ε_kind k l e = let (p, q) = (and-eq-true_iff _ _).0 e in empty_word k (eqb-true _ _ p) (eqb-true _ _ q)
+  fits_of letter_kind k l e =
       let (range, q) = (and-eq-true_iff (leb 1 w.left && leb w.left 255) (eqb w.right 0)).0 e in
       let (p, b) = (and-eq-true_iff (leb 1 w.left) (leb w.left 255)).0 range in
       let least = leb-true 1 w.left p in
       let most = leb-true w.left 255 b in
       letter k (omega arith) (omega arith) (eqb-true _ _ q)
-  fits-of (sign-kind s) k l e = fits-sign s k
-  fits-of star-kind k l e = star k (eqb-true _ _ e)
-  fits-of unknown-kind k l e = absurd (omega arith)
+  fits_of (sign_kind s) k l e = fits_sign s k
+  fits_of star_kind k l e = star k (eqb-true _ _ e)
+  fits_of unknown_kind k l e = absurd (omega arith)
 
-  tested-as : (m : Meaning) → Numbered m w.kind → fields_fit m w.left w.right ≡ true → fields_fit (meaning w.kind) w.left w.right ≡ true
-  tested-as m k e = ap (λ n. fields_fit n w.left w.right) (meaning-is m w.kind k) ∙ e
+  tested_as : (m : Meaning) → Numbered m w.kind → fields_fit m w.left w.right ≡ true → fields_fit (meaning w.kind) w.left w.right ≡ true
+  tested_as m k e = ap (λ n. fields_fit n w.left w.right) (meaning_is m w.kind k) ∙ e
 
   pub tested : FieldsFit w → fields_fit (meaning w.kind) w.left w.right ≡ true
-  unfolding fields_fit kind-of-sign
-  tested (empty-language k p q) = tested-as ∅-kind k (rw (eq-eqb _ _ p, eq-eqb _ _ q))
-  tested (empty-word k p q) = tested-as ε-kind k (rw (eq-eqb _ _ p, eq-eqb _ _ q))
-  tested (letter k p b q) = tested-as letter-kind k (rw (le-leb 1 w.left (omega arith), le-leb w.left 255 (omega arith), eq-eqb _ _ q))
-  tested (union k) = tested-as (sign-kind Expression.union) k refl
-  tested (concatenation k) = tested-as (sign-kind Expression.concatenation) k refl
-  tested (shuffle k) = tested-as (sign-kind Expression.shuffle) k refl
-  tested (star k q) = tested-as star-kind k (eq-eqb _ _ q)
+  unfolding fields_fit kind_of_sign
+  tested (empty_language k p q) = tested_as ∅-kind k (rw (eq-eqb _ _ p, eq-eqb _ _ q))
+  tested (empty_word k p q) = tested_as ε_kind k (rw (eq-eqb _ _ p, eq-eqb _ _ q))
+  tested (letter k p b q) = tested_as letter_kind k (rw (le-leb 1 w.left (omega arith), le-leb w.left 255 (omega arith), eq-eqb _ _ q))
+  tested (union k) = tested_as (sign_kind Expression.union) k refl
+  tested (concatenation k) = tested_as (sign_kind Expression.concatenation) k refl
+  tested (shuffle k) = tested_as (sign_kind Expression.shuffle) k refl
+  tested (star k q) = tested_as star_kind k (eq-eqb _ _ q)
 
   pub fits : w.kind ≤ 6 → fields_fit (meaning w.kind) w.left w.right ≡ true → FieldsFit w
-  fits l e = fits-of (meaning w.kind) (numbered w.kind) l e
+  fits l e = fits_of (meaning w.kind) (numbered w.kind) l e
 
   -- A kind with fitting fields is one of 01's table.
   pub known : FieldsFit w → w.kind ≤ 6
-  known (empty-language k p q) = omega arith
-  known (empty-word k p q) = omega arith
+  known (empty_language k p q) = omega arith
+  known (empty_word k p q) = omega arith
   known (letter k p b q) = omega arith
   known (union k) = omega arith
   known (concatenation k) = omega arith
@@ -66,66 +66,66 @@ module _ (w : Row) where
 
   -- ---- The fields that hold a child
 
-  sign-range : (s : Sign) → w.kind ≡ kind-of-sign s → (3 ≤ w.kind) × (w.kind ≤ 5)
-  unfolding kind-of-sign
-  sign-range Expression.union e = (omega arith, omega arith)
-  sign-range Expression.concatenation e = (omega arith, omega arith)
-  sign-range Expression.shuffle e = (omega arith, omega arith)
+  sign_range : (s : Sign) → w.kind ≡ kind_of_sign s → (3 ≤ w.kind) × (w.kind ≤ 5)
+  unfolding kind_of_sign
+  sign_range Expression.union e = (omega arith, omega arith)
+  sign_range Expression.concatenation e = (omega arith, omega arith)
+  sign_range Expression.shuffle e = (omega arith, omega arith)
 
-  child-of : (m : Meaning) (c : ℕ) → Numbered m w.kind → Memᴰ c (children m w.left w.right) → ChildOf w c
+  child_of : (m : Meaning) (c : ℕ) → Numbered m w.kind → Memᴰ c (children m w.left w.right) → ChildOf w c
   unfolding children
-  child-of ∅-kind c k h = absurd (Memᴰ.not-nil h)
-  child-of ε-kind c k h = absurd (Memᴰ.not-nil h)
-  child-of letter-kind c k h = absurd (Memᴰ.not-nil h)
-  child-of (sign-kind s) c k h =
-      let (a, b) = sign-range s k in
+  child_of ∅-kind c k h = absurd (Memᴰ.not-nil h)
+  child_of ε_kind c k h = absurd (Memᴰ.not-nil h)
+  child_of letter_kind c k h = absurd (Memᴰ.not-nil h)
+  child_of (sign_kind s) c k h =
+      let (a, b) = sign_range s k in
       ⊎_elim (λ e. left a (omega arith) e) (λ t. ⊎_elim (λ e. right a b e) (λ n. absurd (Memᴰ.not-nil n)) (Memᴰ.cases_cons t))
       (Memᴰ.cases_cons h)
-  child-of star-kind c k h = ⊎_elim (λ e. left (omega arith) (omega arith) e) (λ n. absurd (Memᴰ.not-nil n)) (Memᴰ.cases_cons h)
-  child-of unknown-kind c k h = absurd (Memᴰ.not-nil h)
+  child_of star_kind c k h = ⊎_elim (λ e. left (omega arith) (omega arith) e) (λ n. absurd (Memᴰ.not-nil n)) (Memᴰ.cases_cons h)
+  child_of unknown_kind c k h = absurd (Memᴰ.not-nil h)
 
   named_by : (m : Meaning) (c : ℕ) → Numbered m w.kind → ChildOf w c → Memᴰ c (children m w.left w.right)
   unfolding children
   named_by ∅-kind c k (left a b e) = absurd (omega arith)
   named_by ∅-kind c k (right a b e) = absurd (omega arith)
-  named_by ε-kind c k (left a b e) = absurd (omega arith)
-  named_by ε-kind c k (right a b e) = absurd (omega arith)
-  named_by letter-kind c k (left a b e) = absurd (omega arith)
-  named_by letter-kind c k (right a b e) = absurd (omega arith)
-  named_by (sign-kind s) c k (left a b e) = Memᴰ.head e
-  named_by (sign-kind s) c k (right a b e) = Memᴰ.tail (Memᴰ.head e)
-  named_by star-kind c k (left a b e) = Memᴰ.head e
-  named_by star-kind c k (right a b e) = absurd (omega arith)
-  named_by unknown-kind c k (left a b e) = absurd (omega arith)
-  named_by unknown-kind c k (right a b e) = absurd (omega arith)
+  named_by ε_kind c k (left a b e) = absurd (omega arith)
+  named_by ε_kind c k (right a b e) = absurd (omega arith)
+  named_by letter_kind c k (left a b e) = absurd (omega arith)
+  named_by letter_kind c k (right a b e) = absurd (omega arith)
+  named_by (sign_kind s) c k (left a b e) = Memᴰ.head e
+  named_by (sign_kind s) c k (right a b e) = Memᴰ.tail (Memᴰ.head e)
+  named_by star_kind c k (left a b e) = Memᴰ.head e
+  named_by star_kind c k (right a b e) = absurd (omega arith)
+  named_by unknown_kind c k (left a b e) = absurd (omega arith)
+  named_by unknown_kind c k (right a b e) = absurd (omega arith)
 
-  pub children-are : (c : ℕ) → Memᴰ c (row-children w) ↔ ChildOf w c
-  unfolding row-children
-  children-are c = (child-of (meaning w.kind) c (numbered w.kind), named_by (meaning w.kind) c (numbered w.kind))
+  pub children_are : (c : ℕ) → Memᴰ c (row_children w) ↔ ChildOf w c
+  unfolding row_children
+  children_are c = (child_of (meaning w.kind) c (numbered w.kind), named_by (meaning w.kind) c (numbered w.kind))
 
 -- ---- An entry, and the whole table
 
-pub entry-is : (n i : ℕ) (w : Row) → Tested.Faultless n i w ↔ Faultless n i w
-entry-is n i w = (
-  λ h. record { fits = fits w h.known h.fits; smaller = λ c m. h.smaller c ((children-are w c).1 m); alone = h.alone },
-  λ h. record { known = known w h.fits; fits = tested w h.fits; smaller = λ c m. h.smaller c ((children-are w c).0 m); alone = h.alone },
+pub entry_is : (n i : ℕ) (w : Row) → Tested.Faultless n i w ↔ Faultless n i w
+entry_is n i w = (
+  λ h. record { fits = fits w h.known h.fits; smaller = λ c m. h.smaller c ((children_are w c).1 m); alone = h.alone },
+  λ h. record { known = known w h.fits; fits = tested w h.fits; smaller = λ c m. h.smaller c ((children_are w c).0 m); alone = h.alone },
 )
 
 pub table_is : (g : Table) → Tested.WellFormed g ↔ WellFormed g
 table_is g = (
   λ h. record {
     sized = record { even = h.lengths; nonempty = h.nonempty; short = h.short };
-    faultless = λ i l. (entry-is (size g) i (row g i)).0 (h.faultless i l);
+    faultless = λ i l. (entry_is (size g) i (row g i)).0 (h.faultless i l);
     once = h.once;
   },
   λ h. record {
     lengths = h.sized.even;
     nonempty = h.sized.nonempty;
     short = h.sized.short;
-    faultless = λ i l. (entry-is (size g) i (row g i)).1 (h.faultless i l);
+    faultless = λ i l. (entry_is (size g) i (row g i)).1 (h.faultless i l);
     once = h.once;
   },
 )
 
-pub tables-tested : TablesTested
-tables-tested = record { fields = λ w l. (fits w l, tested w); children = children-are; entries = entry-is; tables = table_is }
+pub tables_tested : TablesTested
+tables_tested = record { fields = λ w l. (fits w l, tested w); children = children_are; entries = entry_is; tables = table_is }

@@ -2,7 +2,7 @@
 -- come, and so two answers that meet a contract are the same.
 use Rattle.std.specs.Prelude.{ℕ, ◌<◌, ◌≡◌}
 use Rattle.theory.specs.Language.{Word}
-use Rattle.theory.specs.Table.{Table, table-refusal}
+use Rattle.theory.specs.Table.{Table, table_refusal}
 use Rattle.theory.specs.Grammar.{Text}
 use Rattle.theory.specs.Read.{Read}
 use Rattle.theory.specs.Build.{Lent, Built}
@@ -23,7 +23,7 @@ use Rattle.matcher.specs.declared.Judgement.TheVariants as judge
 
 -- No call answers a refusal with number 0; no text is read as no entry; no table is built as no state.
 pub record NeverNone : Type 0 where
-  pub checks : (g : Table) {n p : ℕ} → Scanned (check.Refused n p) (table-refusal g) → 0 < n
+  pub checks : (g : Table) {n p : ℕ} → Scanned (check.Refused n p) (table_refusal g) → 0 < n
   pub reads : {text : Text} {t : Table} {n p : ℕ} {t' : Table} → Read text t (reader.answer (read.Refused n p)) t' → 0 < n
   pub entries : {text : Text} {t : Table} {n : ℕ} {t' : Table} → Read text t (reader.answer (read.Read n)) t' → 0 < n
   pub builds : {g : Table} {c : Lent} {n p : ℕ} {c' : Lent} → Built g c (builder.answer (build.Refused n p)) c' → 0 < n
@@ -31,7 +31,7 @@ pub record NeverNone : Type 0 where
   pub judges : {h : Handed} {w : Word} {k : Work} {n : ℕ} {k' : Work} → Judged h w k (values (judge.Refused n)) k' → 0 < n
 
 pub record AnswersOnce : Type 0 where
-  pub checks : (g : Table) {a b : Checked} → Scanned a (table-refusal g) → Scanned b (table-refusal g) → a ≡ b
+  pub checks : (g : Table) {a b : Checked} → Scanned a (table_refusal g) → Scanned b (table_refusal g) → a ≡ b
   pub reads : {text : Text} {t : Table} {a b : Reading} {t' t'' : Table} → Read text t (reader.answer a) t' → Read text t (reader.answer b) t'' → a ≡ b
   pub builds : {g : Table} {c : Lent} {a b : Building} {d d' : Lent} → Built g c (builder.answer a) d → Built g c (builder.answer b) d' → a ≡ b
   pub judges : {h : Handed} {w : Word} {k : Work} {a b : Judgement} {k' k'' : Work} → Judged h w k (values a) k' → Judged h w k (values b) k'' → a ≡ b

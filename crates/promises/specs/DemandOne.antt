@@ -2,7 +2,7 @@
 -- writing is then zero, and no call is refused without that number's cause." The causes are those of `specs/`. Each number is below 16, which is
 -- the records program's own.
 use Rattle.theory.specs.Language.{Word}
-use Rattle.theory.specs.Table.{Table, table-refusal}
+use Rattle.theory.specs.Table.{Table, table_refusal}
 use Rattle.theory.specs.Grammar.{Text}
 use Rattle.theory.specs.Read.{Read, Entered}
 use Rattle.theory.specs.Build.{Lent, Counts, Built}
@@ -21,10 +21,10 @@ use Rattle.promises.specs.Site.{SiteMeets, TextMeets}
 
 -- Whoever meets the contract of a call meets the demand.
 pub record DemandOne : Type 0 where
-  pub checks : (g : Table) {answer : Checked} → Scanned answer (table-refusal g) → TableMeets g answer
+  pub checks : (g : Table) {answer : Checked} → Scanned answer (table_refusal g) → TableMeets g answer
   pub reads : {text : Text} {t : Table} {answer : Entered} {t' : Table} → Read text t answer t' → ReaderMeets text t answer t'
   pub builds : {g : Table} {c : Lent} {answer : Counts} {c' : Lent} → Built g c answer c' → BuilderMeets g c answer c'
   pub judges : {h : Handed} {w : Word} {k : Work} {answer : Judgement} {k' : Work} → Judged h w k answer k' → MatcherMeets h k answer k'
   pub sites : {text : Text} {s : Shown} {answer : Report} {s' : Shown} → Made text s answer s' → SiteMeets text s answer s'
-  pub judges-text : {text : Text} {w : Word} {s : Shown} {k : Work} {answer : Judgement} {s' : Shown} {k' : Work}
+  pub judges_text : {text : Text} {w : Word} {s : Shown} {k : Work} {answer : Judgement} {s' : Shown} {k' : Work}
       → JudgesText text w s k answer s' k' → TextMeets text s k answer s' k'

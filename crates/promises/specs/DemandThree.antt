@@ -6,12 +6,12 @@ use Rattle.theory.specs.Refusal.{success}
 use Rattle.theory.specs.Table.{Table, row, size, tree}
 use Rattle.theory.specs.Automaton.{states, expressions, arcs}
 use Rattle.theory.specs.Build.{Lent, Counts, Built, EvenLent}
-use Rattle.theory.specs.Below.{count-below}
+use Rattle.theory.specs.Below.{count_below}
 use Rattle.promises.specs.Table.{WellFormed}
 
 -- The letter's m: the entries of kind 2.
-abbrev pub letter-entries : Table → ℕ
-letter-entries g = count-below (size g) (λ i. eqb (row g i).kind 2)
+abbrev pub letter_entries : Table → ℕ
+letter_entries g = count_below (size g) (λ i. eqb (row g i).kind 2)
 
 -- What the automaton of a table's tree needs at most.
 pub record Needs (g : Table) (n m : ℕ) : Type 0 where
@@ -27,7 +27,7 @@ pub record Roomy (c : Lent) (n m : ℕ) : Type 0 where
   pub arcs : m * 4 ^ m ≤ length c.arcs.from
 
 pub record DemandThree : Type 0 where
-  pub needs : (g : Table) → WellFormed g → Needs g (size g) (letter-entries g)
+  pub needs : (g : Table) → WellFormed g → Needs g (size g) (letter_entries g)
   pub builds : {g : Table} {c : Lent} {answer : Counts} {c' : Lent} → WellFormed g
-      → letter-entries g ≤ 10 → size g * 2 ^ letter-entries g + 1 ≤ 65535 → Roomy c (size g) (letter-entries g)
+      → letter_entries g ≤ 10 → size g * 2 ^ letter_entries g + 1 ≤ 65535 → Roomy c (size g) (letter_entries g)
       → Built g c answer c' → answer.refusal ≡ success

@@ -16,7 +16,7 @@ use Rattle.promises.specs.Reader.{ReaderCause}
 use Rattle.promises.specs.Builder.{BuilderCause}
 use Rattle.promises.specs.Matcher.{MatcherCause, TooShort}
 use Rattle.promises.specs.Once.{SameBuild}
-use Rattle.promises.specs.DemandThree.{letter-entries, Roomy}
+use Rattle.promises.specs.DemandThree.{letter_entries, Roomy}
 
 -- `HostCause Cause counts r`: with this slice for the counts there is cause for the refusal r, where `Cause` has the causes of the call itself.
 -- "23, that slice has fewer than 4 numbers; before all others."
@@ -27,15 +27,15 @@ pub data HostCause (Cause : Refusal → Type 0) (counts : List ℕ) : Refusal �
 -- ---- The packing
 
 -- An answer taken apart again: the quotient by 2^32, and the rest.
-abbrev pub taken-apart : ℕ → Refusal
-taken-apart r = refusal (r / 4294967296) (r % 4294967296)
+abbrev pub taken_apart : ℕ → Refusal
+taken_apart r = refusal (r / 4294967296) (r % 4294967296)
 
 -- A pair that can occur, its place at most `most`: packed, it is a 64-bit number, and taking that apart gives the pair back.
 pub record Reversible (most : ℕ) (r : Refusal) : Type 0 where
   pub number : r.number < 24
   pub place : r.place ≤ most
   pub holds : packed r < 18446744073709551616
-  pub undone : taken-apart (packed r) ≡ r
+  pub undone : taken_apart (packed r) ≡ r
 
 -- "number times 2^32 plus place", "reversibly for every pair that can occur": the pairs that there can be cause for. The reader's places are bytes of
 -- a text of at most 4,096 or its length, the builder's entries of a table of at most 512, the matcher's 0.
@@ -50,8 +50,8 @@ pub record PackingUndone : Type 0 where
 -- The answer r, taken apart, is a refusal exactly where there is cause for it; where it is not 0 the counts are zero, and so is all else that was
 -- lent for writing.
 pub record HostMeets (Cause : Refusal → Type 0) (Zero : Type 0) (counts : List ℕ) (r : ℕ) (counts' : List ℕ) : Type 0 where
-  pub exact : (e : Refusal) → (taken-apart r ≡ e) ↔ HostCause Cause counts e
-  pub no-count : ¬ (r ≡ 0) → counts' ≡ zeros (length counts)
+  pub exact : (e : Refusal) → (taken_apart r ≡ e) ↔ HostCause Cause counts e
+  pub no_count : ¬ (r ≡ 0) → counts' ≡ zeros (length counts)
   pub columns : ¬ (r ≡ 0) → Zero
 
 pub record HostDemandOne : Type 0 where
@@ -112,35 +112,35 @@ first n t = table (take n t.kind) (take n t.left) (take n t.right)
 -- A text is read, the table that it gives is built, and the record w is judged over what was built; each call answers 0, and each number is handed
 -- on from the place in the counts where the call before left it. `counts` is what the last call leaves there.
 pub record HostRun (text : Text) (w : Word) (counts : List ℕ) : Type 0 where
-  pub table-lent : Table
-  pub table-left : Table
-  pub read-lent : List ℕ
-  pub read-counts : List ℕ
-  pub reads : HostReads text table-lent read-lent 0 table-left read-counts
+  pub table_lent : Table
+  pub table_left : Table
+  pub read_lent : List ℕ
+  pub read_counts : List ℕ
+  pub reads : HostReads text table_lent read_lent 0 table_left read_counts
   pub lent : Lent
   pub left : Lent
-  pub build-lent : List ℕ
-  pub build-counts : List ℕ
-  pub builds : HostBuilds (first (get_or read-counts 0 0) table-left) lent build-lent 0 left build-counts
+  pub build_lent : List ℕ
+  pub build_counts : List ℕ
+  pub builds : HostBuilds (first (get_or read_counts 0 0) table_left) lent build_lent 0 left build_counts
   pub work : Work
-  pub work-left : Work
-  pub judge-lent : List ℕ
-  pub judges : HostJudges (handed (get_or build-counts 0 0) left.accepting (get_or build-counts 2 0) left.arcs) w work judge-lent 0 work-left counts
+  pub work_left : Work
+  pub judge_lent : List ℕ
+  pub judges : HostJudges (handed (get_or build_counts 0 0) left.accepting (get_or build_counts 2 0) left.arcs) w work judge_lent 0 work_left counts
 
 pub record HostDemands : Type 0 where
   -- Over a table that was built, from a text or not, with enough words lent and a slice of 4 numbers or more, each record is judged.
-  pub judged : {g : Table} {c : Lent} {counts : List ℕ} {c' : Lent} {counts' : List ℕ} {w : Word} {k : Work} {judge-lent : List ℕ} {r : ℕ} {k' : Work}
-      {told : List ℕ} → HostBuilds g c counts 0 c' counts' → 4 ≤ length judge-lent → ¬ TooShort k (get_or counts' 0 0)
-      → HostJudges (handed (get_or counts' 0 0) c'.accepting (get_or counts' 2 0) c'.arcs) w k judge-lent r k' told → r ≡ 0
+  pub judged : {g : Table} {c : Lent} {counts : List ℕ} {c' : Lent} {counts' : List ℕ} {w : Word} {k : Work} {judge_lent : List ℕ} {r : ℕ} {k' : Work}
+      {told : List ℕ} → HostBuilds g c counts 0 c' counts' → 4 ≤ length judge_lent → ¬ TooShort k (get_or counts' 0 0)
+      → HostJudges (handed (get_or counts' 0 0) c'.accepting (get_or counts' 2 0) c'.arcs) w k judge_lent r k' told → r ≡ 0
   -- Where the judgement answers 0, the first count is 1 exactly when the record belongs to the language of the table's tree.
-  pub accepts : {g : Table} {c : Lent} {counts : List ℕ} {c' : Lent} {counts' : List ℕ} {w : Word} {k : Work} {judge-lent : List ℕ} {k' : Work}
+  pub accepts : {g : Table} {c : Lent} {counts : List ℕ} {c' : Lent} {counts' : List ℕ} {w : Word} {k : Work} {judge_lent : List ℕ} {k' : Work}
       {told : List ℕ} → HostBuilds g c counts 0 c' counts'
-      → HostJudges (handed (get_or counts' 0 0) c'.accepting (get_or counts' 2 0) c'.arcs) w k judge-lent 0 k' told
+      → HostJudges (handed (get_or counts' 0 0) c'.accepting (get_or counts' 2 0) c'.arcs) w k judge_lent 0 k' told
       → (get_or told 0 0 ≡ 1) ↔ In (tree g) w
   -- And so for the expression that a text writes.
-  pub accepts-text : {text : Text} {w : Word} {counts : List ℕ} → HostRun text w counts → (e : Expression) → Writable e → written e ≡ text
+  pub accepts_text : {text : Text} {w : Word} {counts : List ℕ} → HostRun text w counts → (e : Expression) → Writable e → written e ≡ text
       → (get_or counts 0 0 ≡ 1) ↔ In e w
   -- With m at most 10, n times 2^m plus 1 at most 65,535, even columns of demand 3's sizes for n entries and m letters, as the header's macros give
   -- them, and a slice of 4 numbers or more: no well-formed table of so many entries and letters, or of fewer, is refused.
   pub sized : {g : Table} {c : Lent} {counts : List ℕ} {r : ℕ} {c' : Lent} {counts' : List ℕ} (n m : ℕ) → WellFormed g → size g ≤ n
-      → letter-entries g ≤ m → m ≤ 10 → n * 2 ^ m + 1 ≤ 65535 → Roomy c n m → 4 ≤ length counts → HostBuilds g c counts r c' counts' → r ≡ 0
+      → letter_entries g ≤ m → m ≤ 10 → n * 2 ^ m + 1 ≤ 65535 → Roomy c n m → 4 ≤ length counts → HostBuilds g c counts r c' counts' → r ≡ 0

@@ -1,5 +1,5 @@
 -- 01's limits of what the reader takes, text by text: the refusal and its place, or the number of entries. Computed by the executable
--- reading that `Grammar.scan-reads` and `Grammar.reads-scan` prove to be the grammar's.
+-- reading that `Grammar.scan_reads` and `Grammar.reads_scan` prove to be the grammar's.
 use Rattle.std.specs.Prelude.{ℕ, Bool, true, ◌&&◌, replicate, T, eqb}
 use mathlib.Core.List.{List, [], ◌∷◌, ◌++◌, flat_map}
 use Rattle.theory.specs.Refusal.{Refusal, refusal, success}
@@ -7,7 +7,7 @@ use Rattle.theory.specs.Expression.{entries}
 use Rattle.theory.specs.Grammar.{Text}
 use Rattle.theory.specs.Scan.{scan}
 use Rattle.theory.specs.Read.{Entered, entered}
-use Rattle.promises.specs.Examples.{same-refusal}
+use Rattle.promises.specs.Examples.{same_refusal}
 
 pub record Limit : Type 0 where
   pub text : Text
@@ -19,8 +19,8 @@ abbrev pub ◌gives◌entries◌ : Text → Refusal → ℕ → Limit
 t gives r entries n = record { text = t; refusal = r; entries = n }
 
 unfoldable pub keeps : Limit → Entered → Bool
-unfolding same-refusal
-keeps l a = same-refusal a.refusal l.refusal && eqb a.entries l.entries
+unfolding same_refusal
+keeps l a = same_refusal a.refusal l.refusal && eqb a.entries l.entries
 
 unfoldable pub all_keep : List Limit → Bool
 unfolding keeps scan entries

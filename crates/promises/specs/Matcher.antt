@@ -8,15 +8,15 @@ use Rattle.theory.specs.Judge.{Judgement}
 
 -- 01, "Reading a record": each cause of refusal 10, in its order.
 pub data Malformed (h : Handed) : Type 0 where
-  no-state : h.states ≡ 0 → Malformed h
-  many-states : 65535 < h.states → Malformed h
-  states-beyond : length h.accepting < h.states → Malformed h
-  arcs-beyond : length h.arcs.columns.from < h.arcs.count → Malformed h
-  many-arcs : 16777216 < h.arcs.count → Malformed h
-  accepting-value : (t : ℕ) → t < h.states → 1 < get_or h.accepting t 0 → Malformed h
-  from-beyond : (i : ℕ) → i < h.arcs.count → h.states ≤ get_or h.arcs.columns.from i 0 → Malformed h
-  to-beyond : (i : ℕ) → i < h.arcs.count → h.states ≤ get_or h.arcs.columns.to i 0 → Malformed h
-  letter-zero : (i : ℕ) → i < h.arcs.count → get_or h.arcs.columns.letter i 0 ≡ 0 → Malformed h
+  no_state : h.states ≡ 0 → Malformed h
+  many_states : 65535 < h.states → Malformed h
+  states_beyond : length h.accepting < h.states → Malformed h
+  arcs_beyond : length h.arcs.columns.from < h.arcs.count → Malformed h
+  many_arcs : 16777216 < h.arcs.count → Malformed h
+  accepting_value : (t : ℕ) → t < h.states → 1 < get_or h.accepting t 0 → Malformed h
+  from_beyond : (i : ℕ) → i < h.arcs.count → h.states ≤ get_or h.arcs.columns.from i 0 → Malformed h
+  to_beyond : (i : ℕ) → i < h.arcs.count → h.states ≤ get_or h.arcs.columns.to i 0 → Malformed h
+  letter_zero : (i : ℕ) → i < h.arcs.count → get_or h.arcs.columns.letter i 0 ≡ 0 → Malformed h
 
 -- 01, refusal 11: "a work column has fewer words than the state count divided by 64, rounded up", which is so where the bits of its words, 64 in
 -- each, are fewer than the n states.
@@ -40,5 +40,5 @@ pub record MatcherMeets (h : Handed) (k : Work) (answer : Judgement) (k' : Work)
   pub columns : k' ≡ cleared k
 
 -- What `judge` is handed after a build: the counts of the answer and the columns as they were left.
-abbrev pub after-build : Counts → Lent → Handed
-after-build answer c = handed answer.states c.accepting answer.arcs c.arcs
+abbrev pub after_build : Counts → Lent → Handed
+after_build answer c = handed answer.states c.accepting answer.arcs c.arcs

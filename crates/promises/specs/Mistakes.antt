@@ -4,8 +4,8 @@ use Rattle.std.specs.Prelude.{List, [], ◌∷◌, T}
 use Rattle.theory.specs.Refusal.{success}
 use Rattle.theory.specs.Record.{accepted}
 use Rattle.theory.specs.Language.{In}
-use Rattle.promises.specs.Examples.{Line, ◌claims◌, needs, with-states, all_hold}
-use Rattle.promises.specs.Printed.{two-pairs}
+use Rattle.promises.specs.Examples.{Line, ◌claims◌, needs, with_states, all_hold}
+use Rattle.promises.specs.Printed.{two_pairs}
 
 unfoldable pub mistakes : List Line
 mistakes =
@@ -18,7 +18,7 @@ mistakes =
     -- "Taking the whole of x's list as ended once one member is the empty word in a shuffle": `abc` of ((a+(a.b))&c).
     ∷ (40 ∷ 40 ∷ 97 ∷ 43 ∷ 40 ∷ 97 ∷ 46 ∷ 98 ∷ 41 ∷ 41 ∷ 38 ∷ 99 ∷ 41 ∷ []) claims needs 6 8 9 (97 ∷ 98 ∷ 99 ∷ []) accepted 1
     -- "Refusing for room on a member that was already in the table, when the table is exactly full": (a&b) with room for its four states.
-    ∷ (40 ∷ 97 ∷ 38 ∷ 98 ∷ 41 ∷ []) claims with-states 4 success
+    ∷ (40 ∷ 97 ∷ 38 ∷ 98 ∷ 41 ∷ []) claims with_states 4 success
     ∷ []
 
 -- One claim about the table: what each mistake would change is as the rules give it.
@@ -27,5 +27,5 @@ pub record MistakesShutOut : Type 0 where
 
 pub record Mixed : Type 0 where
   -- acbd is a mix of ab and cd; adcb is none, since d comes before c.
-  pub mix : In two-pairs (97 ∷ 99 ∷ 98 ∷ 100 ∷ [])
-  pub no-mix : ¬ In two-pairs (97 ∷ 100 ∷ 99 ∷ 98 ∷ [])
+  pub mix : In two_pairs (97 ∷ 99 ∷ 98 ∷ 100 ∷ [])
+  pub no_mix : ¬ In two_pairs (97 ∷ 100 ∷ 99 ∷ 98 ∷ [])

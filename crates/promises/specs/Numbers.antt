@@ -7,41 +7,41 @@ use Rattle.theory.specs.Rooms as Rooms
 -- The column "no." of 01's table, from the first line on; "Success is 0 with place 0."
 pub record RefusalsAre : Type 0 where
   pub success : Refusal.success ≡ Refusal.refusal 0 0
-  pub columns-differ : Refusal.columns-differ ≡ 1
+  pub columns_differ : Refusal.columns_differ ≡ 1
   pub table_empty : Refusal.table_empty ≡ 2
-  pub table-long : Refusal.table-long ≡ 3
-  pub kind-unknown : Refusal.kind-unknown ≡ 4
-  pub field-outside : Refusal.field-outside ≡ 5
-  pub child-not-smaller : Refusal.child-not-smaller ≡ 6
-  pub empty-language-inside : Refusal.empty-language-inside ≡ 7
-  pub not-named-once : Refusal.not-named-once ≡ 8
+  pub table_long : Refusal.table_long ≡ 3
+  pub kind_unknown : Refusal.kind_unknown ≡ 4
+  pub field_outside : Refusal.field_outside ≡ 5
+  pub child_not_smaller : Refusal.child_not_smaller ≡ 6
+  pub empty_language_inside : Refusal.empty_language_inside ≡ 7
+  pub not_named_once : Refusal.not_named_once ≡ 8
   pub room_small : Refusal.room_small ≡ 9
-  pub automaton-malformed : Refusal.automaton-malformed ≡ 10
-  pub work-short : Refusal.work-short ≡ 11
-  pub text-long : Refusal.text-long ≡ 12
-  pub not-grammar : Refusal.not-grammar ≡ 13
-  pub too-deep : Refusal.too-deep ≡ 14
-  pub too-many-entries : Refusal.too-many-entries ≡ 15
-  pub record-long : Refusal.record-long ≡ 16
+  pub automaton_malformed : Refusal.automaton_malformed ≡ 10
+  pub work_short : Refusal.work_short ≡ 11
+  pub text_long : Refusal.text_long ≡ 12
+  pub not_grammar : Refusal.not_grammar ≡ 13
+  pub too_deep : Refusal.too_deep ≡ 14
+  pub too_many_entries : Refusal.too_many_entries ≡ 15
+  pub record_long : Refusal.record_long ≡ 16
   -- 2026-01
-  pub lines-many : Refusal.lines-many ≡ 22
+  pub lines_many : Refusal.lines_many ≡ 22
   -- 2026-02
-  pub counts-few : Refusal.counts-few ≡ 23
+  pub counts_few : Refusal.counts_few ≡ 23
 
 pub record LimitsAre : Type 0 where
   -- "A table has 1 to 512 entries."
-  pub most-entries : Limit.most-entries ≡ 512
+  pub most_entries : Limit.most_entries ≡ 512
   -- "The text has at most 4,096 bytes, at most 64 parentheses open at once."
-  pub longest-text : Limit.longest-text ≡ 4096
-  pub most-open : Limit.most-open ≡ 64
+  pub longest_text : Limit.longest_text ≡ 4096
+  pub most_open : Limit.most_open ≡ 64
   -- "65,535 for expressions and states and 16,777,216 for arcs"
-  pub most-expressions : Limit.most-expressions ≡ 65535
-  pub most-states : Limit.most-states ≡ 65535
-  pub most-arcs : Limit.most-arcs ≡ 16777216
+  pub most_expressions : Limit.most_expressions ≡ 65535
+  pub most_states : Limit.most_states ≡ 65535
+  pub most_arcs : Limit.most_arcs ≡ 16777216
   -- "letter | 1 to 255"
   pub last_letter : Limit.last_letter ≡ 255
   -- 2026-01: "more than 100,000 lines"
-  pub most-lines : Limit.most-lines ≡ 100000
+  pub most_lines : Limit.most_lines ≡ 100000
 
 -- "Both have rooms of 512 entries, 1,024 expressions, 512 states, 4,096 arcs."
 pub record RoomsAre : Type 0 where

@@ -4,7 +4,7 @@
 use Rattle.std.specs.Prelude.{ℕ, ◌<◌, ◌≤◌, ◌≡◌, length, get_or}
 use Rattle.theory.specs.Distinct.{Within}
 use Rattle.theory.specs.Language.{Word}
-use Rattle.theory.specs.Table.{Table, row, trees, tree-at}
+use Rattle.theory.specs.Table.{Table, row, trees, tree_at}
 use Rattle.theory.specs.Grammar.{Text}
 use Rattle.theory.specs.Read.{Read, Entered}
 use Rattle.theory.specs.Build.{Lent, Counts, Built}
@@ -22,15 +22,15 @@ pub record JudgeOnce : Type 0 where
 pub record SameBuild (n m : ℕ) (c d : Lent) : Type 0 where
   pub accepting : c.accepting ≡ d.accepting
   pub arcs : c.arcs ≡ d.arcs
-  pub kind-length : length c.rows.kind ≡ length d.rows.kind
-  pub left-length : length c.rows.left ≡ length d.rows.left
-  pub right-length : length c.rows.right ≡ length d.rows.right
-  pub expression-length : length c.expression ≡ length d.expression
+  pub kind_length : length c.rows.kind ≡ length d.rows.kind
+  pub left_length : length c.rows.left ≡ length d.rows.left
+  pub right_length : length c.rows.right ≡ length d.rows.right
+  pub expression_length : length c.expression ≡ length d.expression
   pub forth : Within (trees c.rows n) (trees d.rows n)
   pub back : Within (trees d.rows n) (trees c.rows n)
-  pub named : (i : ℕ) → i < m → tree-at c.rows (get_or c.expression i 0) ≡ tree-at d.rows (get_or d.expression i 0)
-  pub rows-beyond : (i : ℕ) → n ≤ i → row c.rows i ≡ row d.rows i
-  pub states-beyond : (i : ℕ) → m ≤ i → get_or c.expression i 0 ≡ get_or d.expression i 0
+  pub named : (i : ℕ) → i < m → tree_at c.rows (get_or c.expression i 0) ≡ tree_at d.rows (get_or d.expression i 0)
+  pub rows_beyond : (i : ℕ) → n ≤ i → row c.rows i ≡ row d.rows i
+  pub states_beyond : (i : ℕ) → m ≤ i → get_or c.expression i 0 ≡ get_or d.expression i 0
 
 -- On a refusal all columns are equal; else they are the same build.
 pub record BuiltAlike (a b : Counts) (d d' : Lent) : Type 0 where

@@ -2,13 +2,13 @@
 -- columns that the reader filled"; and the tree of that table is the expression that the text writes.
 use Rattle.std.specs.Prelude.{◌≡◌, ◌⊎◌}
 use Rattle.theory.specs.Refusal.{success}
-use Rattle.theory.specs.Table.{Table, tree, table-refusal}
+use Rattle.theory.specs.Table.{Table, tree, table_refusal}
 use Rattle.theory.specs.Grammar.{Text, written, Writable}
 use Rattle.theory.specs.Build.{Lent, Counts, Built, EvenLent}
 
 -- What the builder is handed after a text was read.
 pub record ReadThenBuild (text : Text) (g : Table) : Type 0 where
-  pub faultless : table-refusal g ≡ success
+  pub faultless : table_refusal g ≡ success
   pub writable : Writable (tree g)
   pub spelled : written (tree g) ≡ text
   -- With even columns lent, a build can be refused for room alone.

@@ -8,8 +8,8 @@ use Rattle.theory.specs.Grammar.{Text, written, Writable, Whole, Viable, depth, 
 use Rattle.theory.specs.Read.{Entered}
 
 -- 01, refusal 15: "the smaller of 512 and the column length".
-abbrev pub entry-room : Table → ℕ
-entry-room t = min 512 (size t)
+abbrev pub entry_room : Table → ℕ
+entry_room t = min 512 (size t)
 
 -- Nothing is wrong before the first byte is read.
 pub record Legible (text : Text) (t : Table) : Type 0 where
@@ -20,7 +20,7 @@ pub record Legible (text : Text) (t : Table) : Type 0 where
 pub record Reached (text : Text) (t : Table) (p : ℕ) : Type 0 where
   pub legible : Legible text t
   pub inside : p < length text
-  pub passed : Passed (entry-room t) (take p text)
+  pub passed : Passed (entry_room t) (take p text)
 
 -- 01, "The written expression": the text is e written, within the limits.
 pub record Written (text : Text) (t : Table) (e : Expression) : Type 0 where
@@ -28,16 +28,16 @@ pub record Written (text : Text) (t : Table) (e : Expression) : Type 0 where
   pub writable : Writable e
   pub spelled : written e ≡ text
   pub shallow : (p : ℕ) → depth (take p text) ≤ 64
-  pub fits : entries e ≤ entry-room t
+  pub fits : entries e ≤ entry_room t
 
 -- `ReaderCause text t r`: there is cause for the refusal r. After byte p the text is its first p + 1 bytes.
 pub data ReaderCause (text : Text) (t : Table) : Refusal → Type 0 where
   differ : ¬ SameLengths t → ReaderCause text t (refusal 1 0)
   long : SameLengths t → 4096 < length text → ReaderCause text t (refusal 12 0)
   broken : (p : ℕ) → Reached text t p → ¬ Viable (take (suc p) text) → ReaderCause text t (refusal 13 p)
-  stopped : Legible text t → Passed (entry-room t) text → ¬ Whole text → ReaderCause text t (refusal 13 (length text))
+  stopped : Legible text t → Passed (entry_room t) text → ¬ Whole text → ReaderCause text t (refusal 13 (length text))
   deep : (p : ℕ) → Reached text t p → Viable (take (suc p) text) → 64 < depth (take (suc p) text) → ReaderCause text t (refusal 14 p)
-  many : (p : ℕ) → Reached text t p → Viable (take (suc p) text) → entry-room t < made (take (suc p) text) → ReaderCause text t (refusal 15 p)
+  many : (p : ℕ) → Reached text t p → Viable (take (suc p) text) → entry_room t < made (take (suc p) text) → ReaderCause text t (refusal 15 p)
   none : (e : Expression) → Written text t e → ReaderCause text t success
 
 -- What demand 1 asks of a call: a refusal is given exactly where there is cause for it, and then the count and all columns are zero.

@@ -10,7 +10,7 @@ use Rattle.theory.specs.Build.{OverRoom}
 use Rattle.theory.specs.Record.{Work, cleared}
 use Rattle.theory.specs.Judge.{Judgement}
 use Rattle.theory.specs.Report.{Report, withheld}
-use Rattle.site.specs.Site.{Shown, entry-columns, beside, blank, Made}
+use Rattle.site.specs.Site.{Shown, entry_columns, beside, blank, Made}
 use Rattle.site.specs.Values.{values, spoken}
 use Rattle.site.specs.Sited.{JudgesText}
 use Rattle.site.specs.declared.Site.{Site}
@@ -26,10 +26,10 @@ pub record EvenShown (s : Shown) : Type 0 where
 -- `SiteCause text s r`: there is cause for the refusal r. The reader's come first; then 1, where `accepting` is not as long as its states' column
 -- or the arc columns differ; then 9.
 pub data SiteCause (text : Text) (s : Shown) : Refusal → Type 0 where
-  unread : {r : Refusal} → ReaderCause text entry-columns r → ¬ (r.number ≡ 0) → SiteCause text s r
-  differ : (e : Expression) → Written text entry-columns e → ¬ EvenShown s → SiteCause text s (refusal 1 0)
-  room : (e : Expression) → Written text entry-columns e → EvenShown s → OverRoom e (beside s) → SiteCause text s (refusal 9 0)
-  none : (e : Expression) → Written text entry-columns e → EvenShown s → ¬ OverRoom e (beside s) → SiteCause text s success
+  unread : {r : Refusal} → ReaderCause text entry_columns r → ¬ (r.number ≡ 0) → SiteCause text s r
+  differ : (e : Expression) → Written text entry_columns e → ¬ EvenShown s → SiteCause text s (refusal 1 0)
+  room : (e : Expression) → Written text entry_columns e → EvenShown s → OverRoom e (beside s) → SiteCause text s (refusal 9 0)
+  none : (e : Expression) → Written text entry_columns e → EvenShown s → ¬ OverRoom e (beside s) → SiteCause text s success
 
 -- What demand 1 asks of a call: a refusal is given exactly where there is cause for it, and then all counts and columns are zero.
 pub record SiteMeets (text : Text) (s : Shown) (answer : Report) (s' : Shown) : Type 0 where
@@ -42,16 +42,16 @@ pub record SiteMeets (text : Text) (s : Shown) (answer : Report) (s' : Shown) : 
 -- first; then 11, by the number of states of the expression that the text writes. There is none for 10: what was built is not malformed.
 pub data TextCause (text : Text) (s : Shown) (k : Work) : Refusal → Type 0 where
   unbuilt : {r : Refusal} → SiteCause text s r → ¬ (r.number ≡ 0) → TextCause text s k r
-  short : (e : Expression) → Written text entry-columns e → EvenShown s → ¬ OverRoom e (beside s) → TooShort k (length (states e))
+  short : (e : Expression) → Written text entry_columns e → EvenShown s → ¬ OverRoom e (beside s) → TooShort k (length (states e))
       → TextCause text s k (refusal 11 0)
-  judged : (e : Expression) → Written text entry-columns e → EvenShown s → ¬ OverRoom e (beside s) → ¬ TooShort k (length (states e))
+  judged : (e : Expression) → Written text entry_columns e → EvenShown s → ¬ OverRoom e (beside s) → ¬ TooShort k (length (states e))
       → TextCause text s k success
 
 -- What demand 1 asks of a call: a refusal is given exactly where there is cause for it, and then verdict, place, live and all columns are zero;
 -- the work columns are zero afterwards in any case.
 pub record TextMeets (text : Text) (s : Shown) (k : Work) (answer : Judgement) (s' : Shown) (k' : Work) : Type 0 where
   pub exact : (r : Refusal) → (answer.refusal ≡ r) ↔ TextCause text s k r
-  pub never-malformed : ¬ (answer.refusal.number ≡ 10)
+  pub never_malformed : ¬ (answer.refusal.number ≡ 10)
   pub numbered : answer.refusal.number < 16
   pub counts : ¬ (answer.refusal.number ≡ 0) → (answer.verdict ≡ 0) × (answer.place ≡ 0) × (answer.live ≡ 0)
   pub columns : ¬ (answer.refusal.number ≡ 0) → s' ≡ blank s

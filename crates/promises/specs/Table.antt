@@ -2,15 +2,15 @@
 use Rattle.std.specs.Prelude.{ℕ, pred, ◌≤◌, ◌<◌, ◌≡◌, ◌↔◌, true}
 use mathlib.Core.List.{Memᴰ}
 use Rattle.theory.specs.Refusal.{Refusal, refusal, success}
-use Rattle.theory.specs.Table.{Table, Row, row, size, meaning, fields_fit, row-children, times, named, SameLengths}
+use Rattle.theory.specs.Table.{Table, Row, row, size, meaning, fields_fit, row_children, times, named, SameLengths}
 use Rattle.theory.specs.Table as Tested
-use Rattle.table.specs.Checked.{refusal-of}
+use Rattle.table.specs.Checked.{refusal_of}
 use Rattle.table.specs.declared.Checked.{Checked}
 
 -- 01's table of kinds, the columns "left" and "right" where they hold no child: what a row of each kind may have there.
 pub data FieldsFit (w : Row) : Type 0 where
-  empty-language : w.kind ≡ 0 → w.left ≡ 0 → w.right ≡ 0 → FieldsFit w
-  empty-word : w.kind ≡ 1 → w.left ≡ 0 → w.right ≡ 0 → FieldsFit w
+  empty_language : w.kind ≡ 0 → w.left ≡ 0 → w.right ≡ 0 → FieldsFit w
+  empty_word : w.kind ≡ 1 → w.left ≡ 0 → w.right ≡ 0 → FieldsFit w
   letter : w.kind ≡ 2 → 1 ≤ w.left → w.left ≤ 255 → w.right ≡ 0 → FieldsFit w
   union : w.kind ≡ 3 → FieldsFit w
   concatenation : w.kind ≡ 4 → FieldsFit w
@@ -26,7 +26,7 @@ pub data ChildOf (w : Row) (c : ℕ) : Type 0 where
 pub data EntryCause (n i : ℕ) (w : Row) : ℕ → Type 0 where
   unknown : 6 < w.kind → EntryCause n i w 4
   outside : w.kind ≤ 6 → ¬ FieldsFit w → EntryCause n i w 5
-  not-smaller : FieldsFit w → (c : ℕ) → ChildOf w c → i ≤ c → EntryCause n i w 6
+  not_smaller : FieldsFit w → (c : ℕ) → ChildOf w c → i ≤ c → EntryCause n i w 6
   inside : w.kind ≡ 0 → FieldsFit w → 1 < n → EntryCause n i w 7
 
 -- Entry i of a table of n gives no cause. 01: "A child's number is smaller than its parent's"; "Kind 0 may stand only as the single entry of a
@@ -62,18 +62,18 @@ pub data TableCause (g : Table) : Refusal → Type 0 where
   empty : SameLengths g → size g ≡ 0 → TableCause g (refusal 2 0)
   long : SameLengths g → 512 < size g → TableCause g (refusal 3 0)
   entry : {k : ℕ} → Sized g → (p : ℕ) → p < size g → FaultlessBefore g p → EntryCause (size g) p (row g p) k → TableCause g (refusal k p)
-  not-once : Sized g → FaultlessBefore g (size g) → (p : ℕ) → p < pred (size g) → ((i : ℕ) → i < p → NamedOnce g i) → ¬ NamedOnce g p
+  not_once : Sized g → FaultlessBefore g (size g) → (p : ℕ) → p < pred (size g) → ((i : ℕ) → i < p → NamedOnce g i) → ¬ NamedOnce g p
       → TableCause g (refusal 8 p)
   none : WellFormed g → TableCause g success
 
 -- What demand 1 asks of a check, which writes nothing: a refusal is given exactly where there is cause for it.
 pub record TableMeets (g : Table) (answer : Checked) : Type 0 where
-  pub exact : (r : Refusal) → (refusal-of answer ≡ r) ↔ TableCause g r
-  pub numbered : (refusal-of answer).number < 9
+  pub exact : (r : Refusal) → (refusal_of answer ≡ r) ↔ TableCause g r
+  pub numbered : (refusal_of answer).number < 9
 
 -- The types above are what the tests of the contracts find.
 pub record TablesTested : Type 0 where
   pub fields : (w : Row) → w.kind ≤ 6 → (fields_fit (meaning w.kind) w.left w.right ≡ true) ↔ FieldsFit w
-  pub children : (w : Row) (c : ℕ) → Memᴰ c (row-children w) ↔ ChildOf w c
+  pub children : (w : Row) (c : ℕ) → Memᴰ c (row_children w) ↔ ChildOf w c
   pub entries : (n i : ℕ) (w : Row) → Tested.Faultless n i w ↔ Faultless n i w
   pub tables : (g : Table) → Tested.WellFormed g ↔ WellFormed g

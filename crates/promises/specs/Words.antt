@@ -7,9 +7,9 @@ pub record WordsAre : Type 0 where
   -- So many words have a bit for each of n states, and no whole word is left over.
   pub enough : (n : ℕ) → n ≤ 64 * words n
   pub least : (n : ℕ) → 64 * words n < n + 64
-  pub of-1 : words 1 ≡ 1
-  pub of-64 : words 64 ≡ 1
-  pub of-65 : words 65 ≡ 2
-  pub of-512 : words 512 ≡ 8
+  pub of_1 : words 1 ≡ 1
+  pub of_64 : words 64 ≡ 1
+  pub of_65 : words 65 ≡ 2
+  pub of_512 : words 512 ≡ 8
   -- The matcher's test finds the columns whose bits are fewer than the states.
   pub tested : (k : Work) (n : ℕ) → (short k n ≡ true) ↔ TooShort k n

@@ -11,28 +11,28 @@ use Rattle.theory.specs.Table.{Table, table, Row}
 use Rattle.reader.specs.Found.{laid}
 
 -- The three columns as a call leaves them.
-abbrev pub left-by-call : List ℕ × (List ℕ × (List ℕ × Unit {0})) → Table
-left-by-call last = table last.0 last.1.0 last.1.1.0
+abbrev pub left_by_call : List ℕ × (List ℕ × (List ℕ × Unit {0})) → Table
+left_by_call last = table last.0 last.1.0 last.1.1.0
 
-sets-append : (l : List ℕ) (i : ℕ) (xs ys : List ℕ) → sets l i (xs ++ ys) ≡ sets (sets l i xs) (i + length xs) ys
-sets-append l i [] ys = rw add-zero
-sets-append l i (x ∷ xs) ys = rw (add-suc, ← suc-add) (sets-append (set l i x) (suc i) xs ys)
+sets_append : (l : List ℕ) (i : ℕ) (xs ys : List ℕ) → sets l i (xs ++ ys) ≡ sets (sets l i xs) (i + length xs) ys
+sets_append l i [] ys = rw add-zero
+sets_append l i (x ∷ xs) ys = rw (add-suc, ← suc-add) (sets_append (set l i x) (suc i) xs ys)
 
-column-append : (f : Row → ℕ) (l : List ℕ) (i : ℕ) (vs ws : List Row) → sets l i (map f (vs ++ ws)) ≡ sets (sets l i (map f vs)) (i + length vs) (map f ws)
-column-append f l i vs ws = rw (map-append, ← length-map vs f) (sets-append l i (map f vs) (map f ws))
+column_append : (f : Row → ℕ) (l : List ℕ) (i : ℕ) (vs ws : List Row) → sets l i (map f (vs ++ ws)) ≡ sets (sets l i (map f vs)) (i + length vs) (map f ws)
+column_append f l i vs ws = rw (map-append, ← length-map vs f) (sets_append l i (map f vs) (map f ws))
 
-pub laid-append : (base : ℕ) (vs ws : List Row) (t : Table) → laid base (vs ++ ws) t ≡ laid (base + length vs) ws (laid base vs t)
-laid-append base vs ws t =
+pub laid_append : (base : ℕ) (vs ws : List Row) (t : Table) → laid base (vs ++ ws) t ≡ laid (base + length vs) ws (laid base vs t)
+laid_append base vs ws t =
     cc (
-      column-append (λ w. w.kind) t.kind base vs ws,
-      column-append (λ w. w.left) t.left base vs ws,
-      column-append (λ w. w.right) t.right base vs ws,
+      column_append (λ w. w.kind) t.kind base vs ws,
+      column_append (λ w. w.left) t.left base vs ws,
+      column_append (λ w. w.right) t.right base vs ws,
     )
 
-drop-zeros : (k n : ℕ) → drop k (zeros n) ≡ zeros (n - k)
-drop-zeros zero n = simp unary_clauses
-drop-zeros (suc k) zero = ap zeros (sym (zero-sub (suc k)))
-drop-zeros (suc k) (suc n) = simp unary_clauses (drop-zeros k n)
+drop_zeros : (k n : ℕ) → drop k (zeros n) ≡ zeros (n - k)
+drop_zeros zero n = simp unary_clauses
+drop_zeros (suc k) zero = ap zeros (sym (zero-sub (suc k)))
+drop_zeros (suc k) (suc n) = simp unary_clauses (drop_zeros k n)
 
-pub laid-zeros : (n : ℕ) (xs : List ℕ) → length xs ≤ n → sets (zeros n) 0 xs ≡ filled n xs
-laid-zeros n xs l = sets-eq xs (zeros n) 0 (rw (zero-add, length-replicate) l) ∙ rw (zero-add, drop-zeros)
+pub laid_zeros : (n : ℕ) (xs : List ℕ) → length xs ≤ n → sets (zeros n) 0 xs ≡ filled n xs
+laid_zeros n xs l = sets-eq xs (zeros n) 0 (rw (zero-add, length-replicate) l) ∙ rw (zero-add, drop_zeros)

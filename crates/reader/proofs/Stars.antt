@@ -6,13 +6,13 @@ use mathlib.Core.List.{[], ◌∷◌}
 use lib.ListN.{length, length-set}
 use Rattle.theory.specs.Kind
 use Rattle.theory.specs.Table.{Table}
-use Rattle.theory.specs.Grammar.{Text, byte-*}
+use Rattle.theory.specs.Grammar.{Text, byte_*}
 use Rattle.columns.specs.declared.Cursor.{Cursor}
 use Rattle.reader.specs.declared.entries.Found.{Found}
 use Rattle.reader.specs.declared.entries.Found.TheVariants.{Value}
 use Rattle.reader.specs.Found.{Entry, Start, After, Answered}
 use Rattle.columns.proofs.ByteAt.{ByteAt}
-use Rattle.reader.proofs.Answers.{star-row, star-answers}
+use Rattle.reader.proofs.Answers.{star_row, star_answers}
 
 -- Whatever stood before place at₀ stands before place `at`, with the stars that follow it.
 pub record Starred (room : ℕ) (text : Text) (at₀ made₀ : ℕ) (t₀ : Table) (at made : ℕ) (t : Table) : Type 0 where
@@ -24,16 +24,16 @@ pub record Starred (room : ℕ) (text : Text) (at₀ made₀ : ℕ) (t₀ : Tabl
   pub right : length t.right ≡ length t₀.right
 
 module _ {room : ℕ} {text : Text} {at₀ made₀ : ℕ} {t₀ : Table} {at made byte : ℕ} {t : Table} (x : Starred room text at₀ made₀ t₀ at made t)
-    {cursor : Cursor} (h : ByteAt text at byte cursor) (e : byte ≡ byte-*) where
-  pub starred-answers : (r : Found) (t' : Table) → Entry room made cursor (star-row made ∷ []) t r t'
+    {cursor : Cursor} (h : ByteAt text at byte cursor) (e : byte ≡ byte_*) where
+  pub starred_answers : (r : Found) (t' : Table) → Entry room made cursor (star_row made ∷ []) t r t'
       → (s : Start) → After room text s at₀ made₀ t₀ → Answered room text s r t'
-  starred-answers r t' i s y = star-answers room text s at made t (x.onward s y) byte cursor h e r t' i
+  starred_answers r t' i s y = star_answers room text s at made t (x.onward s y) byte cursor h e r t' i
 
-  pub starred-more : {made' : ℕ} {cursor' : Cursor} {t' : Table} → Entry room made cursor (star-row made ∷ []) t (Value made' cursor') t'
+  pub starred_more : {made' : ℕ} {cursor' : Cursor} {t' : Table} → Entry room made cursor (star_row made ∷ []) t (Value made' cursor') t'
       → Starred room text at₀ made₀ t₀ cursor'.at made' t'
-  starred-more {made'} {cursor'} {t'} i =
+  starred_more {made'} {cursor'} {t'} i =
       record {
-        onward = starred-answers (Value made' cursor') t' i;
+        onward = starred_answers (Value made' cursor') t' i;
         positive = omega (arith, i.1);
         fits = omega (arith, i.0, i.1);
         kind = ap (λ (u : Table). length u.kind) i.3 ∙ length-set t.kind made Kind.star ∙ x.kind;

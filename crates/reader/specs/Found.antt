@@ -3,11 +3,11 @@ use Rattle.std.specs.Prelude.{ℕ, ◌+◌, ◌-◌, ◌≤◌, ◌<◌, ◌≡�
 use Rattle.std.proofs.Math.Option.{Option, none, some}
 use Rattle.std.proofs.lemmas.List.Edits.{sets}
 use Rattle.theory.specs.Expression.{Expression, Sign, ε, letter, entries}
-use Rattle.theory.specs.Limit.{most-entries, most-open}
-use Rattle.theory.specs.Refusal.{refusal, not-grammar, too-many-entries}
-use Rattle.theory.specs.Table.{Table, table, columns, Row, kind-of-sign}
-use Rattle.theory.specs.Grammar.{Text, Reading, refused, rows, sign-byte, byte-0, byte-close, byte-*}
-use Rattle.theory.specs.Scan.{Token, opening, closing, starring, ∅-token, ε-token, other, signing, naming, Frame, Stand, before, after, scan-from}
+use Rattle.theory.specs.Limit.{most_entries, most_open}
+use Rattle.theory.specs.Refusal.{refusal, not_grammar, too_many_entries}
+use Rattle.theory.specs.Table.{Table, table, columns, Row, kind_of_sign}
+use Rattle.theory.specs.Grammar.{Text, Reading, refused, rows, sign_byte, byte_0, byte_close, byte_*}
+use Rattle.theory.specs.Scan.{Token, opening, closing, starring, ∅-token, ε_token, other, signing, naming, Frame, Stand, before, after, scan_from}
 use Rattle.columns.specs.declared.Cursor.{Cursor}
 use Rattle.columns.specs.Row.{as_row}
 use Rattle.reader.specs.declared.entries.Point.{Point}
@@ -23,7 +23,7 @@ laid base ws t =
 
 -- 01: "the smaller of 512 and the column length" is what every rule may fill.
 pub record Room (room : ℕ) (t : Table) : Type 0 where
-  pub small : room ≤ most-entries
+  pub small : room ≤ most_entries
   pub kind : room ≤ length t.kind
   pub left : room ≤ length t.left
   pub right : room ≤ length t.right
@@ -31,42 +31,42 @@ pub record Room (room : ℕ) (t : Table) : Type 0 where
 -- An entry for the byte before the cursor: its row, or 15 where the room is full.
 abbrev pub Entry : (room made : ℕ) → Cursor → List Row → Table → Found → Table → Type 0
 Entry room made cursor ws t (Value made' cursor') t' = (made < room) × (made' ≡ made + 1) × (cursor' ≡ cursor) × (t' ≡ laid made ws t)
-Entry room made cursor ws t (Refused number place) t' = (room ≤ made) × (number ≡ too-many-entries) × (place ≡ cursor.at - 1)
+Entry room made cursor ws t (Refused number place) t' = (room ≤ made) × (number ≡ too_many_entries) × (place ≡ cursor.at - 1)
 
 -- The expression that a byte is by itself.
-unfoldable pub leaf-of : Token → Option Expression
-leaf-of opening = none
-leaf-of closing = none
-leaf-of starring = none
-leaf-of ∅-token = none
-leaf-of ε-token = some ε
-leaf-of other = none
-leaf-of (signing s) = none
-leaf-of (naming a) = some (letter a)
+unfoldable pub leaf_of : Token → Option Expression
+leaf_of opening = none
+leaf_of closing = none
+leaf_of starring = none
+leaf_of ∅-token = none
+leaf_of ε_token = some ε
+leaf_of other = none
+leaf_of (signing s) = none
+leaf_of (naming a) = some (letter a)
 
 -- The row that a byte makes by itself, whatever was made before it.
-abbrev pub Leaf-row : Token → LeafRow → Type 0
-Leaf-row k (Of w) = (e : Expression) × (leaf-of k ≡ some e) × ((made : ℕ) → rows made e ≡ as_row w ∷ [])
-Leaf-row k Nothing = leaf-of k ≡ none
+abbrev pub IsLeafRow : Token → LeafRow → Type 0
+IsLeafRow k (Of w) = (e : Expression) × (leaf_of k ≡ some e) × ((made : ℕ) → rows made e ≡ as_row w ∷ [])
+IsLeafRow k Nothing = leaf_of k ≡ none
 
 -- A sign at place `at`, with its entry's kind, or 13.
-abbrev pub Sign-at : Text → ℕ → Found → Type 0
-Sign-at text at (Value kind cursor) = (s : Sign) × (at < length text) × (get_or text at 0 ≡ sign-byte s) × (kind ≡ kind-of-sign s) × (cursor.at ≡ at + 1)
-Sign-at text at (Refused number place) = (number ≡ not-grammar) × (place ≡ at) × ((s : Sign) → at < length text → get_or text at 0 ≡ sign-byte s → ⊥)
+abbrev pub SignAt : Text → ℕ → Found → Type 0
+SignAt text at (Value kind cursor) = (s : Sign) × (at < length text) × (get_or text at 0 ≡ sign_byte s) × (kind ≡ kind_of_sign s) × (cursor.at ≡ at + 1)
+SignAt text at (Refused number place) = (number ≡ not_grammar) × (place ≡ at) × ((s : Sign) → at < length text → get_or text at 0 ≡ sign_byte s → ⊥)
 
 -- `)` at place `at`, where the sign's entry is made: 13 where there is none, and 15 where the room is full.
-abbrev pub Close-at : Text → (room at made : ℕ) → Row → Table → Found → Table → Type 0
-Close-at text room at made w t (Value made' cursor) t' =
-    (at < length text) × (get_or text at 0 ≡ byte-close) × (made < room) × (made' ≡ made + 1) × (cursor.at ≡ at + 1) × (t' ≡ laid made (w ∷ []) t)
-Close-at text room at made w t (Refused number place) t' =
+abbrev pub CloseAt : Text → (room at made : ℕ) → Row → Table → Found → Table → Type 0
+CloseAt text room at made w t (Value made' cursor) t' =
+    (at < length text) × (get_or text at 0 ≡ byte_close) × (made < room) × (made' ≡ made + 1) × (cursor.at ≡ at + 1) × (t' ≡ laid made (w ∷ []) t)
+CloseAt text room at made w t (Refused number place) t' =
     (place ≡ at)
-    × (((number ≡ not-grammar) × (at < length text → get_or text at 0 ≡ byte-close → ⊥))
-    ⊎ ((number ≡ too-many-entries) × (at < length text) × (get_or text at 0 ≡ byte-close) × (room ≤ made)))
+    × (((number ≡ not_grammar) × (at < length text → get_or text at 0 ≡ byte_close → ⊥))
+    ⊎ ((number ≡ too_many_entries) × (at < length text) × (get_or text at 0 ≡ byte_close) × (room ≤ made)))
 
 -- ---- Expression and operand
 
-abbrev pub scan-at : ℕ → Text → ℕ → ℕ → Stand → Reading
-scan-at room text at made c = scan-from room at made c (drop at text)
+abbrev pub scan_at : ℕ → Text → ℕ → ℕ → Stand → Reading
+scan_at room text at made c = scan_from room at made c (drop at text)
 
 -- Where a rule begins: the parentheses open, the place, the entries made and the columns.
 pub record Start : Type 0 where
@@ -83,18 +83,18 @@ abbrev pub begins : Point → Table → Start
 begins at t = start at.depth at.cursor.at at.made t
 
 -- Where a rule may begin. `0` is an expression only where nothing was read before it, and no rule reads it.
-pub record May-begin (room : ℕ) (text : Text) (s : Start) : Type 0 where
-  pub room-left : Room room s.columns
-  pub shallow : s.depth ≤ most-open
+pub record MayBegin (room : ℕ) (text : Text) (s : Start) : Type 0 where
+  pub room_left : Room room s.columns
+  pub shallow : s.depth ≤ most_open
   pub within : s.at ≤ length text
   pub fits : s.made ≤ room
-  pub no-∅ : s.depth ≡ 0 → get_or text s.at 0 ≡ byte-0 → ⊥
+  pub no_∅ : s.depth ≡ 0 → get_or text s.at 0 ≡ byte_0 → ⊥
 
 -- An expression stands between s and place `at`: the scan goes on after it, and its rows are made.
 pub record After (room : ℕ) (text : Text) (s : Start) (at made : ℕ) (t : Table) : Type 0 where
   pub expression : Expression
-  pub reads : (fs : List Frame) → length fs ≡ s.depth → scan-at room text s.at s.made (before fs) ≡ scan-at room text at made (after expression fs)
-  pub shallow : s.depth ≤ most-open
+  pub reads : (fs : List Frame) → length fs ≡ s.depth → scan_at room text s.at s.made (before fs) ≡ scan_at room text at made (after expression fs)
+  pub shallow : s.depth ≤ most_open
   pub onward : s.at < at
   pub within : at ≤ length text
   pub counted : made ≡ s.made + entries expression
@@ -105,9 +105,9 @@ pub record After (room : ℕ) (text : Text) (s : Start) (at made : ℕ) (t : Tab
 abbrev pub Answered : (room : ℕ) → Text → Start → Found → Table → Type 0
 Answered room text s (Value made cursor) t' = After room text s cursor.at made t'
 Answered room text s (Refused number place) t' =
-    (fs : List Frame) → length fs ≡ s.depth → scan-at room text s.at s.made (before fs) ≡ refused (refusal number place)
+    (fs : List Frame) → length fs ≡ s.depth → scan_at room text s.at s.made (before fs) ≡ refused (refusal number place)
 
 -- No `*` follows: the expression is as long as it can be.
 abbrev pub Unstarred : Text → Found → Type 0
-Unstarred text (Value made cursor) = get_or text cursor.at 0 ≡ byte-* → ⊥
+Unstarred text (Value made cursor) = get_or text cursor.at 0 ≡ byte_* → ⊥
 Unstarred text (Refused number place) = Unit {0}

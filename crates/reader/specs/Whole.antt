@@ -10,17 +10,17 @@ use Rattle.theory.specs.Read.{Due, left_by}
 use Rattle.reader.specs.declared.entries.Point.{Point}
 use Rattle.reader.specs.declared.entries.Found.{Found}
 use Rattle.reader.specs.declared.entries.Found.TheVariants.{Value, Refused}
-use Rattle.reader.specs.Found.{laid, scan-at}
+use Rattle.reader.specs.Found.{laid, scan_at}
 
 -- The start of a text: nothing is open, and no entry is made.
-abbrev pub at-start : ℕ → Point
-at-start room = record { cursor = record { at = 0 }; depth = 0; made = 0; room = room }
+abbrev pub at_start : ℕ → Point
+at_start room = record { cursor = record { at = 0 }; depth = 0; made = 0; room = room }
 
 -- `0` or an expression stands before place `at`, after which the grammar allows no other byte.
 pub record Beginning (room : ℕ) (text : Text) (at made : ℕ) (t t' : Table) : Type 0 where
   pub expression : Expression
   pub stand : Stand
-  pub reads : scan room text ≡ scan-at room text at made stand
+  pub reads : scan room text ≡ scan_at room text at made stand
   pub whole : finish at stand ≡ read expression
   pub ended : at < length text → next stand (token (get_or text at 0)) ≡ none
   pub counted : made ≡ entries expression
@@ -31,9 +31,9 @@ Begun room text t (Value made cursor) t' = Beginning room text cursor.at made t 
 Begun room text t (Refused number place) t' = scan room text ≡ refused (refusal number place)
 
 -- The scan of the text, with the rows of what was read.
-abbrev pub Whole-read : (room : ℕ) → Text → Table → Found → Table → Type 0
-Whole-read room text t (Value made cursor) t' = (e : Expression) × (scan room text ≡ read e) × (made ≡ entries e) × (t' ≡ laid 0 (rows 0 e) t)
-Whole-read room text t (Refused number place) t' = scan room text ≡ refused (refusal number place)
+abbrev pub WholeRead : (room : ℕ) → Text → Table → Found → Table → Type 0
+WholeRead room text t (Value made cursor) t' = (e : Expression) × (scan room text ≡ read e) × (made ≡ entries e) × (t' ≡ laid 0 (rows 0 e) t)
+WholeRead room text t (Refused number place) t' = scan room text ≡ refused (refusal number place)
 
 -- The reading that is due. What a refusal leaves in the columns is not said: they are cleared after it.
 abbrev pub Limited : Text → Table → Found → Table → Type 0

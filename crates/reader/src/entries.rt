@@ -2,10 +2,10 @@
 
 ghost use Rattle.std.specs.Prelude.{◌≡◌, [], ◌∷◌, ◌≤◌, ◌<◌};
 ghost use Rattle.theory.specs.Table.{table};
-ghost use Rattle.theory.specs.Grammar.{is-letter};
+ghost use Rattle.theory.specs.Grammar.{is_letter};
 ghost use Rattle.theory.specs.Scan.{token};
 ghost use Rattle.columns.specs.Row.{as_row};
-ghost use Rattle.reader.specs.Found.{Room, Entry, Leaf-row, Sign-at, Close-at, Start, After, Answered, Unstarred};
+ghost use Rattle.reader.specs.Found.{Room, Entry, IsLeafRow, SignAt, CloseAt, Start, After, Answered, Unstarred};
 
 use columns::{Cursor, Row, Step};
 use theory::{kind, refusal};
@@ -51,7 +51,7 @@ pub fn entry(at: Point, row: Row, kind: &mut [u8], left: &mut [u16], right: &mut
 
 // 01: "one letter `A`-`Z` or `a`-`z`".
 fn letter(byte: u8) -> bool
-    ensures { result ≡ is-letter byte }
+    ensures { result ≡ is_letter byte }
 {
     ((b'A' <= byte) & (byte <= b'Z')) | ((b'a' <= byte) & (byte <= b'z'))
 }
@@ -64,7 +64,7 @@ pub enum LeafRow {
 }
 
 pub fn leaf(byte: u8) -> LeafRow
-    ensures { Leaf-row (token byte) result }
+    ensures { IsLeafRow (token byte) result }
 {
     if byte == b'1' {
         return LeafRow::Of(Row {
@@ -85,7 +85,7 @@ pub fn leaf(byte: u8) -> LeafRow
 
 // 01: "with sign `+`, `.` or `&`".
 pub fn sign(text: &[u8], cursor: Cursor) -> Found
-    ensures { Sign-at text.now cursor.at result }
+    ensures { SignAt text.now cursor.at result }
 {
     let place = cursor.at;
     let Step::Byte(byte, cursor) = cursor.step(text) else {
@@ -115,7 +115,7 @@ pub fn close(
     right: &mut [u16],
 ) -> Found
     requires { Room at.room (table kind.old left.old right.old) }
-    ensures { Close-at text.now at.room at.cursor.at at.made (as_row row)
+    ensures { CloseAt text.now at.room at.cursor.at at.made (as_row row)
         (table kind.old left.old right.old) result
         (table kind.new left.new right.new) }
 {

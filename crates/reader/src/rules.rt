@@ -2,8 +2,8 @@
 
 ghost use Rattle.std.specs.Prelude.{◌≡◌};
 ghost use Rattle.theory.specs.Table.{table};
-ghost use Rattle.reader.specs.Found.{Room, begins, May-begin, Answered, Unstarred};
-ghost use Rattle.reader.specs.Whole.{at-start, Begun, Whole-read};
+ghost use Rattle.reader.specs.Found.{Room, begins, MayBegin, Answered, Unstarred};
+ghost use Rattle.reader.specs.Whole.{at_start, Begun, WholeRead};
 
 use super::entries;
 use super::entries::{Found, LeafRow, Point};
@@ -13,7 +13,7 @@ use theory::{kind, limit, refusal};
 // An operand and the stars after it.
 #[cycle(expression_operand)]
 fn expression(text: &[u8], at: Point, kind: &mut [u8], left: &mut [u16], right: &mut [u16]) -> Found
-    requires { May-begin at.room text.now (begins at (table kind.old left.old right.old)) }
+    requires { MayBegin at.room text.now (begins at (table kind.old left.old right.old)) }
     ensures { Answered at.room text.now (begins at (table kind.old left.old right.old)) result
         (table kind.new left.new right.new)
         × Unstarred text.now result }
@@ -28,7 +28,7 @@ fn expression(text: &[u8], at: Point, kind: &mut [u8], left: &mut [u16], right: 
 // `1`, a letter, or two expressions with their sign in parentheses.
 #[cycle(expression_operand)]
 fn operand(text: &[u8], at: Point, kind: &mut [u8], left: &mut [u16], right: &mut [u16]) -> Found
-    requires { May-begin at.room text.now (begins at (table kind.old left.old right.old)) }
+    requires { MayBegin at.room text.now (begins at (table kind.old left.old right.old)) }
     ensures { Answered at.room text.now (begins at (table kind.old left.old right.old)) result
         (table kind.new left.new right.new) }
 {
@@ -85,7 +85,7 @@ fn operand(text: &[u8], at: Point, kind: &mut [u8], left: &mut [u16], right: &mu
 
 // 01: "`0` alone is the empty language." Any other text begins with an expression.
 fn beginning(text: &[u8], at: Point, kind: &mut [u8], left: &mut [u16], right: &mut [u16]) -> Found
-    requires { Room at.room (table kind.old left.old right.old) × (at ≡ at-start at.room) }
+    requires { Room at.room (table kind.old left.old right.old) × (at ≡ at_start at.room) }
     ensures { Begun at.room text.now (table kind.old left.old right.old) result
         (table kind.new left.new right.new) }
 {
@@ -116,7 +116,7 @@ pub fn whole(
     right: &mut [u16],
 ) -> Found
     requires { Room room (table kind.old left.old right.old) }
-    ensures { Whole-read room text.now (table kind.old left.old right.old) result
+    ensures { WholeRead room text.now (table kind.old left.old right.old) result
         (table kind.new left.new right.new) }
 {
     let cursor = Cursor::start();

@@ -10,26 +10,26 @@ use Rattle.lines.specs.declared.input.Input.{Input}
 use Rattle.lines.specs.Input.{Inside}
 use Rattle.theory.specs.Rooms
 use Rattle.site.specs.Sited.{Sited}
-use Rattle.site.proofs.Judging.{few-states}
-use Rattle.records.specs.Answer.{longest-record}
+use Rattle.site.proofs.Judging.{few_states}
+use Rattle.records.specs.Answer.{longest_record}
 
-abbrev answers-room : ℕ
-answers-room = 4096
+abbrev answers_room : ℕ
+answers_room = 4096
 
 -- The columns keep their lengths, and what is used is within the block.
 pub record Going (taken₀ taken column current next block : List ℕ) (input : Input) (used : ℕ) : Type 0 where
   pub inside : Inside input taken
-  pub taken-length : length taken ≡ length taken₀
-  pub column-length : length column ≡ longest-record + 1
-  pub current-length : length current ≡ words Rooms.states
-  pub next-length : length next ≡ words Rooms.states
-  pub block-length : length block ≡ answers-room
+  pub taken_length : length taken ≡ length taken₀
+  pub column_length : length column ≡ longest_record + 1
+  pub current_length : length current ≡ words Rooms.states
+  pub next_length : length next ≡ words Rooms.states
+  pub block_length : length block ≡ answers_room
   pub within : used ≤ length block
 
 module _ {taken₀ taken column current next block : List ℕ} {input : Input} {used : ℕ}
     (g : Going taken₀ taken column current next block input used) where
   -- The work columns hold a bit for each state.
-  pub long-enough : {text : Text} {h : Handed} → Sited text h → LongEnough (work current next) h.states
-  long-enough x =
-      let n = few-states x in
-      record { current = let l = g.current-length in omega arith; next = let l = g.next-length in omega arith }
+  pub long_enough : {text : Text} {h : Handed} → Sited text h → LongEnough (work current next) h.states
+  long_enough x =
+      let n = few_states x in
+      record { current = let l = g.current_length in omega arith; next = let l = g.next_length in omega arith }

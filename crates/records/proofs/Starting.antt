@@ -16,9 +16,9 @@ pub made_of : {text text' : Text} {s s' : Shown} {r r' : Site} → text ≡ text
 made_of {s = s} {s' = s'} {r' = r'} e is h = subst (λ (t : Text). Made t s (values r') s') e (made_as is h)
 
 -- What the enum says.
-pub starts-as : {text : Text} {s s' : Shown} {block block' : List ℕ} {r r' : Start} → r ≡ r' → Starts text s block r s' block'
+pub starts_as : {text : Text} {s s' : Shown} {block block' : List ℕ} {r r' : Start} → r ≡ r' → Starts text s block r s' block'
     → Starts text s block r' s' block'
-starts-as {text} {s} {s'} {block} {block'} e h = subst (λ (r : Start). Starts text s block r s' block') e h
+starts_as {text} {s} {s'} {block} {block'} e h = subst (λ (r : Start). Starts text s block r s' block') e h
 
-pub sited-as : {text text' : Text} {h : Handed} → text' ≡ text → Sited text h → Sited text' h
-sited-as {h = h} e x = subst (λ (t : Text). Sited t h) (sym e) x
+pub sited_as : {text text' : Text} {h : Handed} → text' ≡ text → Sited text h → Sited text' h
+sited_as {h = h} e x = subst (λ (t : Text). Sited t h) (sym e) x

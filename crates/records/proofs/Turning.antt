@@ -12,9 +12,9 @@ use Rattle.lines.specs.declared.input.Line.{Line}
 use Rattle.lines.specs.declared.input.Line.TheVariants.{None, Ended, Full, Failed}
 use Rattle.lines.specs.Input.{Inside, untaken, Unbroken, TookWhole}
 use Rattle.lines.specs.Turn.{Left}
-use Rattle.lines.proofs.WholeLine.{took, no-line-waits, failed-waits}
+use Rattle.lines.proofs.WholeLine.{took, no_line_waits, failed_waits}
 use Rattle.site.specs.Sited.{Sited}
-use Rattle.records.specs.Answer.{line-answer, Answered}
+use Rattle.records.specs.Answer.{line_answer, Answered}
 use Rattle.records.specs.declared.answers.Turn.{Turn}
 use Rattle.records.specs.Turn.{Answers, Follows, Turned}
 
@@ -33,7 +33,7 @@ module _ {text : Text} {taken : List ℕ} {input : Input} {block : List ℕ} {us
       (record { left = left; leaves = l; took = t; answered = a })
 
   all_shown : {h : Handed} {line' : Line} → Sited text h → line ≡ line' → Unbroken (untaken taken input)
-      → ((e : Expression) → line-answer e line' column ≡ []) → Answers text taken input block used line' taken' column block' 0
+      → ((e : Expression) → line_answer e line' column ≡ []) → Answers text taken input block used line' taken' column block' 0
   all_shown {line' = line'} x same u none =
       let a' = subst (λ (x : Line). Answered text x column block left block' used') same a in
       let put = a'.stands x.expression x.writable x.spelled in
@@ -42,22 +42,22 @@ module _ {text : Text} {taken : List ℕ} {input : Input} {block : List ℕ} {us
       subst (λ (n : ℕ). Answers text taken input block used line' taken' column block' n) nought (answers same)
 
   pub no_line : {h : Handed} → Sited text h → line ≡ None → Answers text taken input block used None taken' column block' 0
-  unfolding line-answer
-  no_line x same = all_shown x same (no-line-waits (took same t)) (λ e. refl)
+  unfolding line_answer
+  no_line x same = all_shown x same (no_line_waits (took same t)) (λ e. refl)
 
   pub failed : {h : Handed} → Sited text h → line ≡ Failed → Answers text taken input block used Failed taken' column block' 0
-  unfolding line-answer
-  failed x same = all_shown x same (failed-waits (took same t)) (λ e. refl)
+  unfolding line_answer
+  failed x same = all_shown x same (failed_waits (took same t)) (λ e. refl)
 
 -- What was used stays within the block with an answer after it, and the next line begins in the block.
 module _ {text : Text} {taken : List ℕ} {input : Input} {block : List ℕ} {used : ℕ} {taken' column block' : List ℕ} {used' : ℕ} where
-  pub within-still : {line : Line} → length block' ≡ length block → Answers text taken input block used line taken' column block' used'
+  pub within_still : {line : Line} → length block' ≡ length block → Answers text taken input block used line taken' column block' used'
       → used' ≤ length block'
-  within-still kept a = let s = a.answered.short in let r = a.leaves.room in omega arith
+  within_still kept a = let s = a.answered.short in let r = a.leaves.room in omega arith
 
-  pub inside-still : {input' : Input} (line : Line) → Answers text taken input block used line taken' column block' used' → Follows line input'
+  pub inside_still : {input' : Input} (line : Line) → Answers text taken input block used line taken' column block' used' → Follows line input'
       → Inside input' taken'
-  inside-still None a f = absurd f
-  inside-still (Ended n after) a f = subst (λ (i : Input). Inside i taken') f a.took.holds.1
-  inside-still (Full after) a f = subst (λ (i : Input). Inside i taken') f a.took.holds.0
-  inside-still Failed a f = absurd f
+  inside_still None a f = absurd f
+  inside_still (Ended n after) a f = subst (λ (i : Input). Inside i taken') f a.took.holds.1
+  inside_still (Full after) a f = subst (λ (i : Input). Inside i taken') f a.took.holds.0
+  inside_still Failed a f = absurd f

@@ -1,13 +1,13 @@
 // A line as it was taken, and its answer after what a block holds.
 
 ghost use Rattle.std.specs.Prelude.{◌+◌, ◌≤◌, ◌≡◌, ◌++◌, length};
-ghost use Rattle.theory.specs.Arcs.{arc-columns};
+ghost use Rattle.theory.specs.Arcs.{arc_columns};
 ghost use Rattle.theory.specs.Record.{handed, work, LongEnough};
-ghost use Rattle.theory.specs.Lines.{number-and, newline};
+ghost use Rattle.theory.specs.Lines.{number_and, newline};
 ghost use Rattle.lines.specs.Input.{Inside, Whole};
-ghost use Rattle.lines.specs.Output.{Put, number-room, line-room};
+ghost use Rattle.lines.specs.Output.{Put, number_room, line_room};
 ghost use Rattle.site.specs.Sited.{Sited};
-ghost use Rattle.records.specs.Answer.{longest-record, judgement-line, Answered};
+ghost use Rattle.records.specs.Answer.{longest_record, judgement_line, Answered};
 ghost use Rattle.records.specs.Turn.{Turned};
 
 use lines::input::{Input, Line};
@@ -16,9 +16,9 @@ use lines::turn::Asked;
 use matcher::Judgement;
 
 fn line(block: &mut [u8], used: usize, word: &[u8], n: usize) -> usize
-    requires { used + (length word.now + number-room) ≤ length block.old }
-    ensures put { Put (word.now ++ number-and n newline) block.old used block.new result }
-    ensures upper_bound { result ≤ used + (length word.now + number-room) }
+    requires { used + (length word.now + number_room) ≤ length block.old }
+    ensures put { Put (word.now ++ number_and n newline) block.old used block.new result }
+    ensures upper_bound { result ≤ used + (length word.now + number_room) }
 {
     let said = output::word(block, used, word);
     output::number(block, said, n, b'\n')
@@ -26,9 +26,9 @@ fn line(block: &mut [u8], used: usize, word: &[u8], n: usize) -> usize
 
 // 01: "prints per record `accepted L`, `unfinished L` (L is live) or `wrong P`".
 fn verdict(block: &mut [u8], used: usize, judgement: Judgement) -> usize
-    requires { used + line-room ≤ length block.old }
-    ensures put { Put (judgement-line judgement) block.old used block.new result }
-    ensures upper_bound { result ≤ used + line-room }
+    requires { used + line_room ≤ length block.old }
+    ensures put { Put (judgement_line judgement) block.old used block.new result }
+    ensures upper_bound { result ≤ used + line_room }
 {
     match judgement {
         Judgement::Accepted { live } => line(block, used, b"accepted ", live),
@@ -54,9 +54,9 @@ fn answer(
     block: &mut [u8],
     used: usize,
 ) -> usize
-    requires sited { Sited text.now (handed states accepting.now arcs (arc-columns from.now letter.now to.now)) }
+    requires sited { Sited text.now (handed states accepting.now arcs (arc_columns from.now letter.now to.now)) }
     requires long_enough { LongEnough (work current.old next.old) states }
-    requires whole { Whole longest-record line column.now × (used + line-room ≤ length block.old) }
+    requires whole { Whole longest_record line column.now × (used + line_room ≤ length block.old) }
     ensures { Answered text.now line column.now block.old used block.new result }
 {
     match line {
@@ -106,10 +106,10 @@ pub fn answer_next(
     block: &mut [u8],
     used: usize,
 ) -> Turn
-    requires sited { Sited text.now (handed states accepting.now arcs (arc-columns from.now letter.now to.now)) }
+    requires sited { Sited text.now (handed states accepting.now arcs (arc_columns from.now letter.now to.now)) }
     requires long_enough { LongEnough (work current.old next.old) states }
-    requires inside { Inside input taken.old × (length column.old ≡ longest-record + 1) }
-    requires used_in_bounds { (used ≤ length block.old) × (line-room ≤ length block.old) }
+    requires inside { Inside input taken.old × (length column.old ≡ longest_record + 1) }
+    requires used_in_bounds { (used ≤ length block.old) × (line_room ≤ length block.old) }
     ensures { Turned text.now taken.old input block.old used result taken.new column.new block.new }
 {
     match lines::turn::ask(taken, input, column, block, used) {

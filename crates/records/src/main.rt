@@ -3,11 +3,11 @@
 mod answers;
 
 ghost use Rattle.std.specs.Prelude.{◌≤◌, length};
-ghost use Rattle.theory.specs.Limit.{longest-text};
-ghost use Rattle.theory.specs.Arcs.{arc-columns};
+ghost use Rattle.theory.specs.Limit.{longest_text};
+ghost use Rattle.theory.specs.Arcs.{arc_columns};
 ghost use Rattle.theory.specs.Record.{handed};
-ghost use Rattle.lines.specs.Input.{Inside, line-bytes, Whole};
-ghost use Rattle.lines.specs.Output.{line-room};
+ghost use Rattle.lines.specs.Input.{Inside, line_bytes, Whole};
+ghost use Rattle.lines.specs.Output.{line_room};
 ghost use Rattle.site.specs.Site.{shown, InRooms};
 ghost use Rattle.site.specs.Sited.{Sited};
 ghost use Rattle.records.specs.Start.{Starts};
@@ -41,7 +41,7 @@ fn judge(
     letter: &[u8],
     to: &[u16],
 )
-    requires sited { Sited text.now (handed states accepting.now arcs (arc-columns from.now letter.now to.now)) }
+    requires sited { Sited text.now (handed states accepting.now arcs (arc_columns from.now letter.now to.now)) }
     requires inside { Inside input taken.old }
 {
     // A byte more than a record may have: a longer line fills the column.
@@ -112,9 +112,9 @@ fn automaton_of(
     to: &mut [u16],
     block: &mut [u8],
 ) -> Start
-    requires whole { Whole longest-text line column.now × (line-room ≤ length block.old) }
+    requires whole { Whole longest_text line column.now × (line_room ≤ length block.old) }
     requires in_rooms { InRooms (shown accepting.old from.old letter.old to.old) }
-    ensures { Starts (line-bytes line column.now)
+    ensures { Starts (line_bytes line column.now)
         (shown accepting.old from.old letter.old to.old) block.old result
         (shown accepting.new from.new letter.new to.new) block.new }
 {
@@ -135,7 +135,7 @@ fn automaton_of(
 
 // 01: "the records program stops there if the expression was refused".
 fn run(line: Line, column: &[u8], taken: &mut [u8], input: Input)
-    requires { Whole longest-text line column.now × Inside input taken.old }
+    requires { Whole longest_text line column.now × Inside input taken.old }
 {
     let mut accepting = [0u8; site::STATES];
     let mut from = [0u16; site::ARCS];

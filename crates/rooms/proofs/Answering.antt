@@ -6,9 +6,9 @@ use mathlib.Core.Path.{◌≡◌, sym, ap, ◌∙◌, subst}
 use mathlib.Core.List.{List, [], ◌∷◌, ◌++◌}
 use lib.ListN.{length, take, length-append}
 use Rattle.theory.specs.Refusal.{refusal}
-use Rattle.theory.specs.Limit.{longest-text}
+use Rattle.theory.specs.Limit.{longest_text}
 use Rattle.theory.specs.Report.{Totals, report}
-use Rattle.theory.specs.Lines.{row, refusal-line, report-line}
+use Rattle.theory.specs.Lines.{row, refusal_line, report_line}
 use Rattle.lines.specs.declared.input.Input.{Input}
 use Rattle.lines.specs.declared.input.Line.{Line}
 use Rattle.lines.specs.declared.input.Line.TheVariants.{Ended, Full}
@@ -17,21 +17,21 @@ use Rattle.lines.specs.Turn.{Left}
 use Rattle.lines.proofs.WholeLine.{took}
 use Rattle.lines.specs.Output.{Put}
 use Rattle.site.specs.Values.{values}
-use Rattle.site.specs.Totals.{with-report, HasEntry}
+use Rattle.site.specs.Totals.{with_report, HasEntry}
 use Rattle.site.specs.declared.Site.{Site}
 use Rattle.site.specs.declared.Site.TheVariants.{Refused, Built}
-use Rattle.site.proofs.Reporting.{reports-long}
+use Rattle.site.proofs.Reporting.{reports_long}
 use Rattle.rooms.specs.declared.answers.Standing.{Standing}
 use Rattle.rooms.specs.declared.answers.Turn.TheVariants.{Next}
 use Rattle.rooms.specs.Turn.{Answered, Turned}
 
-pub line_refused : {site : Site} {n p : ℕ} → site ≡ Refused n p → HasEntry (values site) → report-line (values site) ≡ refusal-line (refusal n p)
+pub line_refused : {site : Site} {n p : ℕ} → site ≡ Refused n p → HasEntry (values site) → report_line (values site) ≡ refusal_line (refusal n p)
 line_refused {n = n} {p} is told =
-    ap (λ (s : Site). report-line (values s)) is
-    ∙ rw (ne_eqb n 0 (λ e. let l = subst (λ (s : Site). HasEntry (values s)) is told e in omega arith), report-line)
+    ap (λ (s : Site). report_line (values s)) is
+    ∙ rw (ne_eqb n 0 (λ e. let l = subst (λ (s : Site). HasEntry (values s)) is told e in omega arith), report_line)
 
-pub line-built : {site : Site} {n m q x a : ℕ} → site ≡ Built n m q x a → report-line (values site) ≡ row (n ∷ m ∷ q ∷ x ∷ []) a
-line-built is = ap (λ (s : Site). report-line (values s)) is
+pub line_built : {site : Site} {n m q x a : ℕ} → site ≡ Built n m q x a → report_line (values site) ≡ row (n ∷ m ∷ q ∷ x ∷ []) a
+line_built is = ap (λ (s : Site). report_line (values s)) is
 
 -- What is put is put by another name.
 pub put_as : {text text' before after : List ℕ} {used used' : ℕ} → text ≡ text' → Put text' before used after used' → Put text before used after used'
@@ -47,9 +47,9 @@ all_shown {taken} {input} {size} {used} l u = subst (λ (n : ℕ). Left taken in
 module _ {taken : List ℕ} {input : Input} {totals : Totals} {block : List ℕ} {used left : ℕ} {taken' column block' : List ℕ} {standing : Standing}
     {line : Line} (l : Left taken input (length block) used left) (t : TookWhole taken input line taken' column) {text : List ℕ}
     (a : Answered text totals block left standing block') where
-  pub turned-ended : {n : ℕ} {input' : Input} → line ≡ Ended n input' → text ≡ take n column
+  pub turned_ended : {n : ℕ} {input' : Input} → line ≡ Ended n input' → text ≡ take n column
       → Turned taken input totals block used (Next input' standing) taken' block'
-  turned-ended {n} {input'} e bytes =
+  turned_ended {n} {input'} e bytes =
       let h = (took e t).holds in
       record {
         turns = (
@@ -65,13 +65,13 @@ module _ {taken : List ℕ} {input : Input} {totals : Totals} {block : List ℕ}
       }
 
   -- Of a line that fills the column the report is that of the column.
-  pub turned-full : {input' : Input} → line ≡ Full input' → text ≡ column → length column ≡ longest-text + 1
+  pub turned_full : {input' : Input} → line ≡ Full input' → text ≡ column → length column ≡ longest_text + 1
       → Turned taken input totals block used (Next input' standing) taken' block'
-  turned-full {input'} e bytes w =
+  turned_full {input'} e bytes w =
       let h = (took e t).holds in
       let more = h.1.0 in
       let same : report text ≡ report (column ++ more) =
-      ap report bytes ∙ reports-long column (omega arith) ∙ sym (reports-long (column ++ more) (omega (arith, length-append column more))) in
+      ap report bytes ∙ reports_long column (omega arith) ∙ sym (reports_long (column ++ more) (omega (arith, length-append column more))) in
       record {
         turns = (
           column ++ more,
@@ -81,9 +81,9 @@ module _ {taken : List ℕ} {input : Input} {totals : Totals} {block : List ℕ}
             left = left;
             leaves = l;
             answered = record {
-              put = put_as (ap report-line (sym same)) a.put;
+              put = put_as (ap report_line (sym same)) a.put;
               short = a.short;
-              adds = a.adds ∙ ap (with-report totals) same;
+              adds = a.adds ∙ ap (with_report totals) same;
             };
           },
         );

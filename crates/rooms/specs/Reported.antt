@@ -1,10 +1,10 @@
 -- What the report comes to: of the lines that were taken, as far as it is not written yet.
 use Rattle.std.specs.Prelude.{ℕ, ◌+◌, ◌≤◌, ◌≡◌, ◌⊎◌, List, [], ◌++◌, length, take}
-use Rattle.theory.specs.Limit.{most-lines}
-use Rattle.theory.specs.Refusal.{refusal, lines-many}
+use Rattle.theory.specs.Limit.{most_lines}
+use Rattle.theory.specs.Refusal.{refusal, lines_many}
 use Rattle.theory.specs.Grammar.{Text}
 use Rattle.theory.specs.Report.{Totals}
-use Rattle.theory.specs.Lines.{refusal-line, totals-line, reports, last_line}
+use Rattle.theory.specs.Lines.{refusal_line, totals_line, reports, last_line}
 use Rattle.lines.specs.declared.input.Input.{Input}
 use Rattle.lines.specs.Input.{untaken, Unbroken, Comes}
 use Rattle.lines.specs.Output.{Put}
@@ -14,8 +14,8 @@ use Rattle.rooms.specs.declared.Reported.TheVariants.{All, ReadFailed, WriteFail
 
 -- After 100,000 lines: the totals where there is no further line, and 22 where there is one.
 pub data Ending (taken : List ℕ) (input : Input) (totals : Totals) (block : List ℕ) (left : ℕ) (taken' block' : List ℕ) (used' : ℕ) : Type 0 where
-  no_more : untaken taken input ≡ [] → Put (totals-line totals) block left block' used' → Ending taken input totals block left taken' block' used'
-  too_many : (text : Text) (input' : Input) → Comes taken input text taken' input' → Put (refusal-line (refusal lines-many 0)) block left block' used'
+  no_more : untaken taken input ≡ [] → Put (totals_line totals) block left block' used' → Ending taken input totals block left taken' block' used'
+  too_many : (text : Text) (input' : Input) → Comes taken input text taken' input' → Put (refusal_line (refusal lines_many 0)) block left block' used'
       → Ending taken input totals block left taken' block' used'
 
 -- What `end` owes.
@@ -33,10 +33,10 @@ pub record Whole (taken : List ℕ) (input : Input) (block' : List ℕ) (used : 
   pub after : List ℕ
   pub end : Input
   pub lines : Lines taken input texts after end
-  pub all : (untaken after end ≡ []) ⊎ (length texts ≡ most-lines + 1)
+  pub all : (untaken after end ≡ []) ⊎ (length texts ≡ most_lines + 1)
   pub shown : List ℕ
   pub kept : List ℕ
-  pub answers : shown ++ kept ≡ reports (take most-lines texts)
+  pub answers : shown ++ kept ≡ reports (take most_lines texts)
   pub stands : take used block' ≡ kept ++ last_line texts
   pub within : used ≤ length block'
 

@@ -3,21 +3,21 @@
 use Rattle.std.specs.Prelude.{ℕ, ◌+◌, ◌≤◌, ◌≡◌, List, [], length}
 use Rattle.theory.specs.Grammar.{Text}
 use Rattle.theory.specs.Report.{Totals, report}
-use Rattle.theory.specs.Lines.{report-line}
+use Rattle.theory.specs.Lines.{report_line}
 use Rattle.lines.specs.declared.input.Input.{Input}
 use Rattle.lines.specs.Input.{Inside, untaken, Unbroken, Comes}
-use Rattle.lines.specs.Output.{Put, line-room}
+use Rattle.lines.specs.Output.{Put, line_room}
 use Rattle.lines.specs.Turn.{Left, Due}
-use Rattle.site.specs.Totals.{values, with-report}
+use Rattle.site.specs.Totals.{values, with_report}
 use Rattle.rooms.specs.declared.answers.Standing.{Standing}
 use Rattle.rooms.specs.declared.answers.Turn.{Turn}
 use Rattle.rooms.specs.declared.answers.Turn.TheVariants.{Next, End, ReadFailed, WriteFailed}
 
 -- What `answer` owes.
 pub record Answered (text : Text) (totals : Totals) (block : List ℕ) (used : ℕ) (standing : Standing) (block' : List ℕ) : Type 0 where
-  pub put : Put (report-line (report text)) block used block' standing.used
-  pub short : standing.used ≤ used + line-room
-  pub adds : values standing.totals ≡ with-report totals (report text)
+  pub put : Put (report_line (report text)) block used block' standing.used
+  pub short : standing.used ≤ used + line_room
+  pub adds : values standing.totals ≡ with_report totals (report text)
 
 -- A line was taken, and answered.
 pub record Answers (taken : List ℕ) (input : Input) (totals : Totals) (block : List ℕ) (used : ℕ) (text : Text) (taken' : List ℕ) (input' : Input)

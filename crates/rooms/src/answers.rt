@@ -1,14 +1,14 @@
 // A line as it was taken, its report after what a block holds, and the totals with it.
 
 ghost use Rattle.std.specs.Prelude.{◌+◌, ◌≤◌, ◌≡◌, length};
-ghost use Rattle.theory.specs.Limit.{longest-text};
+ghost use Rattle.theory.specs.Limit.{longest_text};
 ghost use Rattle.theory.specs.Grammar.{Text};
 ghost use Rattle.theory.specs.Report.{report};
-ghost use Rattle.theory.specs.Lines.{report-line, totals-line};
+ghost use Rattle.theory.specs.Lines.{report_line, totals_line};
 ghost use Rattle.lines.specs.Input.{Inside};
-ghost use Rattle.lines.specs.Output.{Put, line-room};
+ghost use Rattle.lines.specs.Output.{Put, line_room};
 ghost use Rattle.site.specs.Values.{values as reported};
-ghost use Rattle.site.specs.Totals.{values, with-report, Fits, HasEntry};
+ghost use Rattle.site.specs.Totals.{values, with_report, Fits, HasEntry};
 ghost use Rattle.rooms.specs.Turn.{Answered, Turned};
 
 use lines::input::{Input, Line};
@@ -19,9 +19,9 @@ use site::totals::Totals;
 
 // 2026-01: "per line, single-spaced, entries, letters, states, expressions and arcs, or the refusal".
 pub fn line(block: &mut [u8], used: usize, site: Site) -> usize
-    requires { HasEntry (reported site) × (used + line-room ≤ length block.old) }
-    ensures put { Put (report-line (reported site)) block.old used block.new result }
-    ensures upper_bound { result ≤ used + line-room }
+    requires { HasEntry (reported site) × (used + line_room ≤ length block.old) }
+    ensures put { Put (report_line (reported site)) block.old used block.new result }
+    ensures upper_bound { result ≤ used + line_room }
 {
     match site {
         Site::Refused { number, place } => output::refused(block, used, number, place),
@@ -45,9 +45,9 @@ pub fn line(block: &mut [u8], used: usize, site: Site) -> usize
 
 // "a last line of totals"
 pub fn totals_line(block: &mut [u8], used: usize, totals: Totals) -> usize
-    requires { used + line-room ≤ length block.old }
-    ensures put { Put (totals-line (values totals)) block.old used block.new result }
-    ensures upper_bound { result ≤ used + line-room }
+    requires { used + line_room ≤ length block.old }
+    ensures put { Put (totals_line (values totals)) block.old used block.new result }
+    ensures upper_bound { result ≤ used + line_room }
 {
     let before = [totals.built, totals.states, totals.powers];
     output::row(block, used, &before, totals.few)
@@ -61,7 +61,7 @@ pub struct Standing {
 
 // What a text comes to, in the programs' rooms.
 fn answer(text: &[u8], totals: Totals, block: &mut [u8], used: usize) -> Standing
-    requires { Fits (with-report (values totals) (report text.now)) × (used + line-room ≤ length block.old) }
+    requires { Fits (with_report (values totals) (report text.now)) × (used + line_room ≤ length block.old) }
     ensures { Answered text.now (values totals) block.old used result block.new }
 {
     let mut accepting = [0u8; site::STATES];
@@ -92,9 +92,9 @@ pub fn answer_next(
     block: &mut [u8],
     used: usize,
 ) -> Turn
-    requires inside { Inside input taken.old × (length column.old ≡ longest-text + 1) }
-    requires used_in_bounds { (used ≤ length block.old) × (line-room ≤ length block.old) }
-    requires fits { (t : Text) → Fits (with-report (values totals) (report t)) }
+    requires inside { Inside input taken.old × (length column.old ≡ longest_text + 1) }
+    requires used_in_bounds { (used ≤ length block.old) × (line_room ≤ length block.old) }
+    requires fits { (t : Text) → Fits (with_report (values totals) (report t)) }
     ensures { Turned taken.old input (values totals) block.old used result taken.new block.new }
 {
     let Asked::Line { line, used: left } = lines::turn::ask(taken, input, column, block, used)

@@ -3,9 +3,9 @@
 mod answers;
 
 ghost use Rattle.std.specs.Prelude.{◌+◌, ◌≤◌, ◌≡◌, length};
-ghost use Rattle.theory.specs.Limit.{longest-text};
+ghost use Rattle.theory.specs.Limit.{longest_text};
 ghost use Rattle.lines.specs.Input.{Inside};
-ghost use Rattle.lines.specs.Output.{line-room, Wrote};
+ghost use Rattle.lines.specs.Output.{line_room, Wrote};
 ghost use Rattle.site.specs.Totals.{values};
 ghost use Rattle.rooms.specs.Reported.{Ends, Last, Reports};
 
@@ -37,8 +37,8 @@ fn end(
     block: &mut [u8],
     used: usize,
 ) -> Reported
-    requires inside { Inside input taken.old × (length column.old ≡ longest-text + 1) }
-    requires used_in_bounds { (used ≤ length block.old) × (line-room ≤ length block.old) }
+    requires inside { Inside input taken.old × (length column.old ≡ longest_text + 1) }
+    requires used_in_bounds { (used ≤ length block.old) × (line_room ≤ length block.old) }
     ensures { Ends taken.old input (values totals) block.old used result taken.new block.new }
 {
     let Asked::Line { line, used: left } = lines::turn::ask(taken, input, column, block, used)
@@ -64,7 +64,7 @@ fn end(
 
 // The report on all lines from here on, up to what the block holds of it at the end.
 fn report(taken: &mut [u8], start: Input, column: &mut [u8], block: &mut [u8]) -> Reported
-    requires { Inside start taken.old × (length column.old ≡ longest-text + 1) × (line-room ≤ length block.old) }
+    requires { Inside start taken.old × (length column.old ≡ longest_text + 1) × (line_room ≤ length block.old) }
     ensures { Reports taken.old start result block.new }
 {
     let mut input = start;

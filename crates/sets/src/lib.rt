@@ -1,14 +1,14 @@
 // Sets of numbers in 64-bit words, one bit per number.
 
 ghost use Rattle.std.specs.Prelude.{◌≡◌, false, cond, ◌||◌, ℕ, ◌*◌, ◌/◌, ◌≤◌, ◌<◌, length, eqb, ltb};
-ghost use Rattle.theory.specs.Limit.{most-states};
-ghost use Rattle.theory.specs.Below.{some_below, count-below};
+ghost use Rattle.theory.specs.Limit.{most_states};
+ghost use Rattle.theory.specs.Below.{some_below, count_below};
 ghost use Rattle.theory.specs.Record.{words};
 ghost use Rattle.sets.specs.Bits.{bit};
 
 // 01: "the state count divided by 64, rounded up".
 pub fn words(states: usize) -> usize
-    requires { states ≤ most-states }
+    requires { states ≤ most_states }
     ensures { result ≡ words states }
 {
     (states + 63) / 64
@@ -32,7 +32,7 @@ pub fn mark(words: &mut [u64], number: usize)
 // The set bits of the first n words. 1,024 words hold every state that 01 allows.
 pub fn count(n: usize, words: &[u64]) -> usize
     requires { (n ≤ length words.now) × (n ≤ 1024) }
-    ensures { result ≡ count-below (n * 64) (bit words.now) }
+    ensures { result ≡ count_below (n * 64) (bit words.now) }
 {
     let mut ones: usize = 0;
     let mut i = 0;

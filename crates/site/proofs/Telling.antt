@@ -7,61 +7,61 @@ use Rattle.theory.specs.Refusal.{Refusal}
 use Rattle.theory.specs.Language.{Word}
 use Rattle.theory.specs.Automaton.{states}
 use Rattle.theory.specs.Grammar.{Text, Reading, read, refused}
-use Rattle.theory.specs.Record.{Handed, handed, Work, cleared, verdict, live, matcher-refusal}
+use Rattle.theory.specs.Record.{Handed, handed, Work, cleared, verdict, live, matcher_refusal}
 use Rattle.theory.specs.Judge.{Judgement, Judged, judgement}
 use Rattle.theory.specs.Judge as judge
-use Rattle.theory.proofs.Answers.{judgement-given, judgement-refused}
-use Rattle.theory.proofs.Handing.{given-some}
+use Rattle.theory.proofs.Answers.{judgement_given, judgement_refused}
+use Rattle.theory.proofs.Handing.{given_some}
 use Rattle.theory.proofs.MatcherRefusal as matching
-use Rattle.theory.proofs.States.{states-some}
+use Rattle.theory.proofs.States.{states_some}
 use Rattle.matcher.specs.Answer.{values}
 use Rattle.matcher.specs.declared.Judgement as matched
 use Rattle.matcher.specs.declared.Judgement.TheVariants as judged
 use Rattle.site.specs.declared.Told.{Told}
 use Rattle.site.specs.Values.{spoken, kept_by, Settled}
 use Rattle.theory.specs.Report.{Report, withheld, needs}
-use Rattle.site.specs.Site.{Shown, site-refusal, answered, blank, holding, left_in, Made}
+use Rattle.site.specs.Site.{Shown, site_refusal, answered, blank, holding, left_in, Made}
 use Rattle.site.specs.Sited.{told, JudgesText}
-use Rattle.site.proofs.Making.{unless-none, unless-some, answered-built, answered-refused, left-refused}
-use Rattle.site.proofs.Judging.{built-from, handed-is, sited, of-text, judged-over}
+use Rattle.site.proofs.Making.{unless_none, unless_some, answered_built, answered_refused, left_refused}
+use Rattle.site.proofs.Judging.{built_from, handed_is, sited, of_text, judged_over}
 
 -- ---- Where the text or the room is refused
 
 -- A refusal is the reader's, or there is a number to it.
 pub data RefusedBy (s : Shown) (r : Refusal) : Reading → Type 0 where
   unread : RefusedBy s r (refused r)
-  no_room : {e : Expression} → r ≡ site-refusal e s → ((site-refusal e s).number ≡ 0 → ⊥) → RefusedBy s r (read e)
+  no_room : {e : Expression} → r ≡ site_refusal e s → ((site_refusal e s).number ≡ 0 → ⊥) → RefusedBy s r (read e)
 
 by_answer : (q : Reading) (s : Shown) {r : Refusal} → withheld r ≡ answered q s → RefusedBy s r q
 unfolding answered needs
-by_answer (read e) s {r} h = no_room (ap (λ (a : Report). a.refusal) (h ∙ answered-refused e s over)) over
+by_answer (read e) s {r} h = no_room (ap (λ (a : Report). a.refusal) (h ∙ answered_refused e s over)) over
   where
-    over : (site-refusal e s).number ≡ 0 → ⊥
-    over z = let q = ap (λ (a : Report). a.states) (h ∙ answered-built e s z) in let p = states-some e in omega arith
+    over : (site_refusal e s).number ≡ 0 → ⊥
+    over z = let q = ap (λ (a : Report). a.states) (h ∙ answered_built e s z) in let p = states_some e in omega arith
 by_answer (refused r') s {r} h = subst (λ (x : Refusal). RefusedBy s r (refused x)) (ap (λ (a : Report). a.refusal) h) unread
 
-pub refused-by : {text : Text} {s s' : Shown} {r : Refusal} (h : Made text s (withheld r) s') → RefusedBy s r h.reading
-refused-by {s = s} h = by_answer h.reading s h.answers
+pub refused_by : {text : Text} {s s' : Shown} {r : Refusal} (h : Made text s (withheld r) s') → RefusedBy s r h.reading
+refused_by {s = s} h = by_answer h.reading s h.answers
 
 -- A refusal has no state, and a build has one.
-pub refused-number : {text : Text} {s s' : Shown} {r : Refusal} → Made text s (withheld r) s' → r.number ≡ 0 → ⊥
+pub refused_number : {text : Text} {s s' : Shown} {r : Refusal} → Made text s (withheld r) s' → r.number ≡ 0 → ⊥
 unfolding needs
-refused-number h z =
-    let b = built-from h z in
+refused_number h z =
+    let b = built_from h z in
     let q = ap (λ (a : Report). a.states) b.counts in
-    let p = states-some b.read_as.expression in
+    let p = states_some b.read_as.expression in
     omega arith
 
-told-as : {q : Reading} {s : Shown} (k : Work) (w : Word) {r : Refusal} → RefusedBy s r q → (judge.withheld r ≡ told q s k w) × (left_in q s ≡ blank s)
+told_as : {q : Reading} {s : Shown} (k : Work) (w : Word) {r : Refusal} → RefusedBy s r q → (judge.withheld r ≡ told q s k w) × (left_in q s ≡ blank s)
 unfolding told left_in
-told-as k w unread = (refl, refl)
-told-as {s = s} k w (no_room {e} p over) = (ap judge.withheld p ∙ sym (unless-some (site-refusal e s) _ _ over), left-refused e s over)
+told_as k w unread = (refl, refl)
+told_as {s = s} k w (no_room {e} p over) = (ap judge.withheld p ∙ sym (unless_some (site_refusal e s) _ _ over), left_refused e s over)
 
-pub told-refused : {text : Text} {w : Word} {s s' : Shown} {k k' : Work} {r : Refusal} → Made text s (withheld r) s' → k' ≡ cleared k
+pub told_refused : {text : Text} {w : Word} {s s' : Shown} {k k' : Work} {r : Refusal} → Made text s (withheld r) s' → k' ≡ cleared k
     → JudgesText text w s k (judge.withheld r) s' k'
-told-refused {w = w} {s} {k = k} {r = r} h q =
-    let n = refused-number h in
-    let t = told-as k w (refused-by h) in
+told_refused {w = w} {s} {k = k} {r = r} h q =
+    let n = refused_number h in
+    let t = told_as k w (refused_by h) in
     record {
       reading = h.reading;
       due = h.due;
@@ -76,62 +76,62 @@ told-refused {w = w} {s} {k = k} {r = r} h q =
 
 module _ {text : Text} {w : Word} {s : Shown} {a : Report} {s₁ : Shown} (h : Made text s a s₁) (z : a.refusal.number ≡ 0)
     {k : Work} {answer : Judgement} {k' : Work} (j : Judged (handed a.states s₁.accepting a.arcs s₁.arcs) w k answer k') where
-  told-so : answer ≡ told h.reading s k w
+  told_so : answer ≡ told h.reading s k w
   unfolding told
-  told-so =
-      let b = built-from h z in
-      j.answers ∙ ap (λ (g : Handed). judgement g k w) (handed-is b)
-      ∙ sym (unless-none (site-refusal b.read_as.expression s) _ _ b.fits) ∙ sym (ap (λ (q : Reading). told q s k w) b.read_as.is)
+  told_so =
+      let b = built_from h z in
+      j.answers ∙ ap (λ (g : Handed). judgement g k w) (handed_is b)
+      ∙ sym (unless_none (site_refusal b.read_as.expression s) _ _ b.fits) ∙ sym (ap (λ (q : Reading). told q s k w) b.read_as.is)
 
   abbrev over : Handed
   over = handed a.states s₁.accepting a.arcs s₁.arcs
 
-  unrefused : answer.refusal.number ≡ 0 → (matcher-refusal over k).number ≡ 0
-  unrefused q = elim (ℕ_discrete (matcher-refusal over k).number 0) [
+  unrefused : answer.refusal.number ≡ 0 → (matcher_refusal over k).number ≡ 0
+  unrefused q = elim (ℕ_discrete (matcher_refusal over k).number 0) [
     | yes y ↦ y
-    | no n ↦ absurd (n (sym (ap (λ (x : Judgement). x.refusal.number) (j.answers ∙ judgement-refused over k w n)) ∙ q))
+    | no n ↦ absurd (n (sym (ap (λ (x : Judgement). x.refusal.number) (j.answers ∙ judgement_refused over k w n)) ∙ q))
   ]
 
   -- A refusal of the matcher has a number.
-  refusal-number : {r : Refusal} → answer ≡ judge.withheld r → r.number ≡ 0 → ⊥
-  refusal-number q y =
+  refusal_number : {r : Refusal} → answer ≡ judge.withheld r → r.number ≡ 0 → ⊥
+  refusal_number q y =
       let m = unrefused (ap (λ (x : Judgement). x.refusal.number) q ∙ y) in
-      given-some (verdict over w) (live over w) (ap (λ (x : Judgement). x.verdict) (sym q ∙ j.answers ∙ judgement-given over k w m))
+      given_some (verdict over w) (live over w) (ap (λ (x : Judgement). x.verdict) (sym q ∙ j.answers ∙ judgement_given over k w m))
 
-  told-built : answer.refusal.number ≡ 0 → JudgesText text w s k answer s₁ k'
-  told-built q = record {
+  told_built : answer.refusal.number ≡ 0 → JudgesText text w s k answer s₁ k'
+  told_built q = record {
     reading = h.reading;
     due = h.due;
-    answers = told-so;
-    judges = λ _. (judged-over (sited (built-from h z)) (matching.not-refused over k (unrefused q)).2 j).judges;
+    answers = told_so;
+    judges = λ _. (judged_over (sited (built_from h z)) (matching.not_refused over k (unrefused q)).2 j).judges;
     holds = λ _.
-        let b = built-from h z in of-text b.read_as.expression b.read_as.writable b.read_as.spelled (λ e. s₁ ≡ holding e s) b.holds;
+        let b = built_from h z in of_text b.read_as.expression b.read_as.writable b.read_as.spelled (λ e. s₁ ≡ holding e s) b.holds;
     blank = λ n. absurd (n q);
     cleared = j.cleared;
   }
 
   -- A work column is too short.
-  told-short : {s' : Shown} → (answer.refusal.number ≡ 0 → ⊥) → s' ≡ blank s → JudgesText text w s k answer s' k'
-  told-short n b = record {
+  told_short : {s' : Shown} → (answer.refusal.number ≡ 0 → ⊥) → s' ≡ blank s → JudgesText text w s k answer s' k'
+  told_short n b = record {
     reading = h.reading;
     due = h.due;
-    answers = told-so;
+    answers = told_so;
     judges = λ q. absurd (n q);
     holds = λ q. absurd (n q);
     blank = λ _. b;
     cleared = j.cleared;
   }
 
-pub told-settled : {text : Text} {w : Word} {s s₁ s' : Shown} {a : Report} → Made text s a s₁ → a.refusal.number ≡ 0 → blank s₁ ≡ blank s
+pub told_settled : {text : Text} {w : Word} {s s₁ s' : Shown} {a : Report} → Made text s a s₁ → a.refusal.number ≡ 0 → blank s₁ ≡ blank s
     → {k k' : Work} (j : matched.Judgement) → Judged (handed a.states s₁.accepting a.arcs s₁.arcs) w k (values j) k'
     → {answer : Told} → Settled j s₁ answer s' → JudgesText text w s k (spoken answer) s' k'
-told-settled {text} {w} {s} {s₁} {s'} {a} h z b {k} {k'} j d {answer} t =
+told_settled {text} {w} {s} {s₁} {s'} {a} h z b {k} {k'} j d {answer} t =
     subst (λ (x : Judgement). JudgesText text w s k x s' k') (sym t.answers)
     (subst (λ (u : Shown). JudgesText text w s k (values j) u k') (sym t.leaves) (go j d))
   where
     go : (j : matched.Judgement) → Judged (handed a.states s₁.accepting a.arcs s₁.arcs) w k (values j) k'
         → JudgesText text w s k (values j) (kept_by j s₁) k'
-    go (judged.Refused n) d = told-short h z d (refusal-number h z d refl) b
-    go (judged.Accepted l) d = told-built h z d refl
-    go (judged.Unfinished l) d = told-built h z d refl
-    go (judged.Wrong p) d = told-built h z d refl
+    go (judged.Refused n) d = told_short h z d (refusal_number h z d refl) b
+    go (judged.Accepted l) d = told_built h z d refl
+    go (judged.Unfinished l) d = told_built h z d refl
+    go (judged.Wrong p) d = told_built h z d refl

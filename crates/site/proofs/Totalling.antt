@@ -9,33 +9,33 @@ use mathlib.Core.List.{List, [], ◌∷◌, ◌++◌, map, map-append}
 use lib.ListN.{length}
 use lib.Dec.{ltb}
 use lib.Pow.{shl_exact, pow_mono}
-use Rattle.theory.specs.Limit.{most-lines}
+use Rattle.theory.specs.Limit.{most_lines}
 use Rattle.theory.specs.Refusal.{refusal, room_small}
 use Rattle.theory.specs.Automaton.{states, expressions, arcs}
 use Rattle.theory.specs.Grammar.{Text, Reading, read, refused}
 use Rattle.theory.specs.Rooms
-use Rattle.theory.specs.Report.{Report, Totals, withheld, needs, too_large, reading, of-reading, report, those, sum, is-built, is-small, totals}
+use Rattle.theory.specs.Report.{Report, Totals, withheld, needs, too_large, reading, of_reading, report, those, sum, is_built, is_small, totals}
 use Rattle.theory.proofs.Tests.{and_right, or_left, or_right}
 use Rattle.site.specs.Values.{values}
-use Rattle.site.specs.Totals.{of_one, plus, with-report, Fits, HasEntry}
+use Rattle.site.specs.Totals.{of_one, plus, with_report, Fits, HasEntry}
 use Rattle.site.specs.declared.Site.{Site}
 use Rattle.site.specs.declared.Site.TheVariants.{Refused, Built}
 
 -- ---- What one text adds
 
 module _ {site : Site} where
-  pub adds-nothing : {n p : ℕ} → site ≡ Refused n p → HasEntry (values site)
+  pub adds_nothing : {n p : ℕ} → site ≡ Refused n p → HasEntry (values site)
       → of_one (values site) ≡ record { built = 0; states = 0; powers = 0; few = 0 }
-  adds-nothing {n} {p} is told =
+  adds_nothing {n} {p} is told =
       ap (λ (s : Site). of_one (values s)) is
       ∙ rw (ne_eqb n 0 (λ e. let l = subst (λ (s : Site). HasEntry (values s)) is told e in omega arith), of_one)
 
   module _ {n m q x a : ℕ} (is : site ≡ Built n m q x a) where
-    pub adds-states : 10 < m → of_one (values site) ≡ record { built = 1; states = q; powers = 0; few = 0 }
-    adds-states l = ap (λ (s : Site). of_one (values s)) is ∙ rw (le-ltb m 11 (omega arith), of_one)
+    pub adds_states : 10 < m → of_one (values site) ≡ record { built = 1; states = q; powers = 0; few = 0 }
+    adds_states l = ap (λ (s : Site). of_one (values s)) is ∙ rw (le-ltb m 11 (omega arith), of_one)
 
-    pub adds-all : m ≤ 10 → of_one (values site) ≡ record { built = 1; states = q; powers = 2 ^ m; few = q }
-    adds-all l = ap (λ (s : Site). of_one (values s)) is ∙ rw (lt-ltb m 11 (omega arith), of_one)
+    pub adds_all : m ≤ 10 → of_one (values site) ≡ record { built = 1; states = q; powers = 2 ^ m; few = q }
+    adds_all l = ap (λ (s : Site). of_one (values s)) is ∙ rw (lt-ltb m 11 (omega arith), of_one)
 
 -- A power of two by a shift.
 pub shifted : (m : ℕ) → m ≤ 10 → 1 * 2 ^ m % 18446744073709551616 ≡ 2 ^ m
@@ -44,10 +44,10 @@ shifted m l = shl_exact 1 m 64 (omega arith) (omega arith) ∙ one-mul (2 ^ m)
 -- ---- Sums over all texts
 
 -- A sum over some is one over all to which the others add nothing.
-sum-those : (f : Report → ℕ) (p : Report → Bool) (xs : List Report) → sum f (those p xs) ≡ sum (λ r. cond (p r) (f r) 0) xs
+sum_those : (f : Report → ℕ) (p : Report → Bool) (xs : List Report) → sum f (those p xs) ≡ sum (λ r. cond (p r) (f r) 0) xs
 unfolding sum those
-sum-those f p [] = refl
-sum-those f p (x ∷ xs) = go (p x) (sum-those f p xs)
+sum_those f p [] = refl
+sum_those f p (x ∷ xs) = go (p x) (sum_those f p xs)
   where
     go : (b : Bool) → sum f (those p xs) ≡ sum (λ r. cond (p r) (f r) 0) xs
         → sum f (cond b (x ∷ those p xs) (those p xs)) ≡ cond b (f x) 0 + sum (λ r. cond (p r) (f r) 0) xs
@@ -60,10 +60,10 @@ unfolding sum
 ones [] = refl
 ones (x ∷ xs) = let e = ones xs in omega arith
 
-those-both : (p q : Report → Bool) (xs : List Report) → those q (those p xs) ≡ those (λ r. p r && q r) xs
+those_both : (p q : Report → Bool) (xs : List Report) → those q (those p xs) ≡ those (λ r. p r && q r) xs
 unfolding those
-those-both p q [] = refl
-those-both p q (x ∷ xs) = go (p x) (those-both p q xs)
+those_both p q [] = refl
+those_both p q (x ∷ xs) = go (p x) (those_both p q xs)
   where
     go : (b : Bool) → those q (those p xs) ≡ those (λ r. p r && q r) xs
         → those q (cond b (x ∷ those p xs) (those p xs)) ≡ cond (b && q x) (x ∷ those (λ r. p r && q r) xs) (those (λ r. p r && q r) xs)
@@ -79,11 +79,11 @@ sums rs = record {
   few = sum (λ r. (of_one r).few) rs;
 }
 
-pub totals-are-sums : (texts : List Text) → totals texts ≡ sums (map report texts)
+pub totals_are_sums : (texts : List Text) → totals texts ≡ sums (map report texts)
 unfolding totals
-totals-are-sums texts = λ i. record {
-  built = (ones (those is-built rs) ∙ sum-those (λ r. 1) is-built rs) i;
-  states = sum-those (λ r. r.states) is-built rs i;
+totals_are_sums texts = λ i. record {
+  built = (ones (those is_built rs) ∙ sum_those (λ r. 1) is_built rs) i;
+  states = sum_those (λ r. r.states) is_built rs i;
   powers = small (λ r. 2 ^ r.letters) i;
   few = small (λ r. r.states) i;
 }
@@ -91,8 +91,8 @@ totals-are-sums texts = λ i. record {
     rs : List Report
     rs = map report texts
 
-    small : (f : Report → ℕ) → sum f (those is-small (those is-built rs)) ≡ sum (λ r. cond (is-built r && is-small r) (f r) 0) rs
-    small f = ap (sum f) (those-both is-built is-small rs) ∙ sum-those f (λ r. is-built r && is-small r) rs
+    small : (f : Report → ℕ) → sum f (those is_small (those is_built rs)) ≡ sum (λ r. cond (is_built r && is_small r) (f r) 0) rs
+    small f = ap (sum f) (those_both is_built is_small rs) ∙ sum_those f (λ r. is_built r && is_small r) rs
 
 -- ---- One text more
 
@@ -101,10 +101,10 @@ unfolding sum
 sum_more f [] r = omega arith
 sum_more f (x ∷ xs) r = let e = sum_more f xs r in omega arith
 
-pub totals-more : (texts : List Text) (t : Text) → totals (texts ++ t ∷ []) ≡ with-report (totals texts) (report t)
-totals-more texts t =
-    totals-are-sums (texts ++ t ∷ []) ∙ ap sums (map-append report texts (t ∷ [])) ∙ more
-    ∙ ap (λ (s : Totals). with-report s (report t)) (sym (totals-are-sums texts))
+pub totals_more : (texts : List Text) (t : Text) → totals (texts ++ t ∷ []) ≡ with_report (totals texts) (report t)
+totals_more texts t =
+    totals_are_sums (texts ++ t ∷ []) ∙ ap sums (map-append report texts (t ∷ [])) ∙ more
+    ∙ ap (λ (s : Totals). with_report s (report t)) (sym (totals_are_sums texts))
   where
     more : sums (map report texts ++ report t ∷ []) ≡ plus (sums (map report texts)) (of_one (report t))
     more = λ i. record {
@@ -116,49 +116,49 @@ totals-more texts t =
 
 -- ---- 64 bits
 
-states-of : (q : Reading) → (of-reading q).states ≤ Rooms.states
-unfolding of-reading too_large needs
-states-of (read e) = go (too_large e) refl
+states_of : (q : Reading) → (of_reading q).states ≤ Rooms.states
+unfolding of_reading too_large needs
+states_of (read e) = go (too_large e) refl
   where
     go : (b : Bool) → too_large e ≡ b → (cond b (withheld (refusal room_small 0)) (needs e)).states ≤ Rooms.states
     go true p = omega arith
     go false p =
         ltb-false Rooms.states (length (states e))
         (or_right (ltb Rooms.expressions (length (expressions e))) _ (or_left _ (ltb Rooms.arcs (length (arcs e))) p))
-states-of (refused r) = omega arith
+states_of (refused r) = omega arith
 
-states-within : (t : Text) → (report t).states ≤ Rooms.states
+states_within : (t : Text) → (report t).states ≤ Rooms.states
 unfolding report
-states-within t = states-of (reading t)
+states_within t = states_of (reading t)
 
 -- What is added is within a bound of what might be.
-some-within : (b : Bool) {n k : ℕ} → (b ≡ true → n ≤ k) → cond b n 0 ≤ k
-some-within true h = h refl
-some-within false h = omega arith
+some_within : (b : Bool) {n k : ℕ} → (b ≡ true → n ≤ k) → cond b n 0 ≤ k
+some_within true h = h refl
+some_within false h = omega arith
 
-power-within : (t : Text) → (of_one (report t)).powers ≤ 1024
-power-within t =
-    some-within (is-built (report t) && is-small (report t))
+power_within : (t : Text) → (of_one (report t)).powers ≤ 1024
+power_within t =
+    some_within (is_built (report t) && is_small (report t))
     (λ e.
-    let l = ltb-true (report t).letters 11 (and_right (is-built (report t)) _ e) in
+    let l = ltb-true (report t).letters 11 (and_right (is_built (report t)) _ e) in
     let m : (report t).letters ≤ 10 = omega arith in pow_mono m)
 
-sum-within : (f : Report → ℕ) (k : ℕ) (texts : List Text) → ((t : Text) → f (report t) ≤ k) → sum f (map report texts) ≤ k * length texts
+sum_within : (f : Report → ℕ) (k : ℕ) (texts : List Text) → ((t : Text) → f (report t) ≤ k) → sum f (map report texts) ≤ k * length texts
 unfolding sum
-sum-within f k [] h = omega arith
-sum-within f k (t ∷ texts) h =
+sum_within f k [] h = omega arith
+sum_within f k (t ∷ texts) h =
     let one = h t in
-    let rest = sum-within f k texts h in
+    let rest = sum_within f k texts h in
     let more : k * length (t ∷ texts) ≡ k + k * length texts = mul-suc k (length texts) ∙ add_comm (k * length texts) k in
     omega arith
 
-pub totals-fit : (texts : List Text) → length texts ≤ most-lines → Fits (totals texts)
-totals-fit texts l =
-    rw (totals-are-sums texts)
+pub totals_fit : (texts : List Text) → length texts ≤ most_lines → Fits (totals texts)
+totals_fit texts l =
+    rw (totals_are_sums texts)
     (record {
-      built = let n = sum-within (λ r. (of_one r).built) 1 texts (λ t. some-within (is-built (report t)) (λ e. omega arith)) in omega arith;
-      states = let n = sum-within (λ r. (of_one r).states) 512 texts (λ t. some-within (is-built (report t)) (λ e. states-within t)) in omega arith;
-      powers = let n = sum-within (λ r. (of_one r).powers) 1024 texts power-within in omega arith;
-      few = let n = sum-within (λ r. (of_one r).few) 512 texts
-          (λ t. some-within (is-built (report t) && is-small (report t)) (λ e. states-within t)) in omega arith;
+      built = let n = sum_within (λ r. (of_one r).built) 1 texts (λ t. some_within (is_built (report t)) (λ e. omega arith)) in omega arith;
+      states = let n = sum_within (λ r. (of_one r).states) 512 texts (λ t. some_within (is_built (report t)) (λ e. states_within t)) in omega arith;
+      powers = let n = sum_within (λ r. (of_one r).powers) 1024 texts power_within in omega arith;
+      few = let n = sum_within (λ r. (of_one r).few) 512 texts
+          (λ t. some_within (is_built (report t) && is_small (report t)) (λ e. states_within t)) in omega arith;
     })

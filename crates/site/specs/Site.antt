@@ -1,14 +1,14 @@
 -- The promise of `site::automaton`: the answer and every lent column at exit, for every text and all lent columns.
 use Rattle.std.specs.Prelude.{ℕ, ◌≡◌, true, false, cond, ◌&&◌, List, length, eqb}
 use Rattle.theory.specs.Expression.{Expression}
-use Rattle.theory.specs.Refusal.{Refusal, refusal, success, columns-differ, room_small}
+use Rattle.theory.specs.Refusal.{Refusal, refusal, success, columns_differ, room_small}
 use Rattle.theory.specs.Column.{zeros, filled}
 use Rattle.theory.specs.Automaton.{states, accepting, expressions, arcs}
-use Rattle.theory.specs.Arcs.{ArcColumns, arc-columns, even-arcs, no-arcs, filled-arcs}
+use Rattle.theory.specs.Arcs.{ArcColumns, arc_columns, even_arcs, no_arcs, filled_arcs}
 use Rattle.theory.specs.Table.{Table, table}
 use Rattle.theory.specs.Grammar.{Text, Reading, read, refused}
 use Rattle.theory.specs.Read.{Due}
-use Rattle.theory.specs.Build.{Lent, lent, over-room}
+use Rattle.theory.specs.Build.{Lent, lent, over_room}
 use Rattle.theory.specs.Rooms
 use Rattle.theory.specs.Report.{Report, withheld, needs}
 
@@ -20,7 +20,7 @@ pub record Shown : Type 0 where
   pub arcs : ArcColumns
 
 abbrev pub shown : List ℕ → List ℕ → List ℕ → List ℕ → Shown
-shown acc f l t = record { accepting = acc; arcs = arc-columns f l t }
+shown acc f l t = record { accepting = acc; arcs = arc_columns f l t }
 
 -- 01: "Both have rooms of 512 entries, 1,024 expressions, 512 states, 4,096 arcs."
 pub record InRooms (s : Shown) : Type 0 where
@@ -30,8 +30,8 @@ pub record InRooms (s : Shown) : Type 0 where
   pub to : length s.arcs.to ≡ Rooms.arcs
 
 -- Entries, expressions and what the states name are looked at by no program: they have columns of the rooms' lengths.
-abbrev pub entry-columns : Table
-entry-columns = table (zeros Rooms.entries) (zeros Rooms.entries) (zeros Rooms.entries)
+abbrev pub entry_columns : Table
+entry_columns = table (zeros Rooms.entries) (zeros Rooms.entries) (zeros Rooms.entries)
 
 abbrev pub beside : Shown → Lent
 beside s =
@@ -41,40 +41,40 @@ beside s =
 
 -- What is refused of an expression that was read: 1 where the accepting column is not as long as the room for states or the arc columns
 -- differ, and 9 where a need exceeds its room.
-unfoldable pub site-refusal : Expression → Shown → Refusal
-unfolding even-arcs over-room
-site-refusal e s =
-    cond (eqb (length s.accepting) Rooms.states && even-arcs s.arcs) (cond (over-room e (beside s)) (refusal room_small 0) success)
-    (refusal columns-differ 0)
+unfoldable pub site_refusal : Expression → Shown → Refusal
+unfolding even_arcs over_room
+site_refusal e s =
+    cond (eqb (length s.accepting) Rooms.states && even_arcs s.arcs) (cond (over_room e (beside s)) (refusal room_small 0) success)
+    (refusal columns_differ 0)
 
 -- By a refusal's number: a where there is none, and b where there is one.
-abbrev pub unless-refused : {A : Type 0} → Refusal → A → A → A
-unless-refused r a b = elim (eqb r.number 0) [ true ↦ a | false ↦ b ]
+abbrev pub unless_refused : {A : Type 0} → Refusal → A → A → A
+unless_refused r a b = elim (eqb r.number 0) [ true ↦ a | false ↦ b ]
 
 unfoldable pub answered : Reading → Shown → Report
-unfolding site-refusal needs
-answered (read e) s = unless-refused (site-refusal e s) (needs e) (withheld (site-refusal e s))
+unfolding site_refusal needs
+answered (read e) s = unless_refused (site_refusal e s) (needs e) (withheld (site_refusal e s))
 answered (refused r) s = withheld r
 
 -- ---- The columns at exit
 
 -- 01: "sets all lent output and work columns to zero".
 abbrev pub blank : Shown → Shown
-blank s = record { accepting = zeros (length s.accepting); arcs = no-arcs s.arcs }
+blank s = record { accepting = zeros (length s.accepting); arcs = no_arcs s.arcs }
 
 -- 01: "Beyond the counts all columns hold zero."
 unfoldable pub holding : Expression → Shown → Shown
 unfolding accepting arcs
-holding e s = record { accepting = filled (length s.accepting) (accepting e); arcs = filled-arcs s.arcs (arcs e) }
+holding e s = record { accepting = filled (length s.accepting) (accepting e); arcs = filled_arcs s.arcs (arcs e) }
 
 unfoldable pub left_in : Reading → Shown → Shown
-unfolding site-refusal holding
-left_in (read e) s = unless-refused (site-refusal e s) (holding e s) (blank s)
+unfolding site_refusal holding
+left_in (read e) s = unless_refused (site_refusal e s) (holding e s) (blank s)
 left_in (refused r) s = blank s
 
 -- What `automaton` owes: what is not read is refused as the reader refuses it, and what is read is built.
 pub record Made (text : Text) (s : Shown) (answer : Report) (s' : Shown) : Type 0 where
   pub reading : Reading
-  pub due : Due text entry-columns reading
+  pub due : Due text entry_columns reading
   pub answers : answer ≡ answered reading s
   pub leaves : s' ≡ left_in reading s

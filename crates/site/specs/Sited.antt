@@ -4,28 +4,28 @@ use Rattle.theory.specs.Expression.{Expression, entries}
 use Rattle.theory.specs.Column.{filled}
 use Rattle.theory.specs.Language.{Word, In}
 use Rattle.theory.specs.Automaton.{states, accepting, arcs}
-use Rattle.theory.specs.Arcs.{filled-arcs}
+use Rattle.theory.specs.Arcs.{filled_arcs}
 use Rattle.theory.specs.Grammar.{Text, Reading, read, refused, written, Writable}
 use Rattle.theory.specs.Read.{Due}
 use Rattle.theory.specs.Record.{Handed, handed, automaton, Work, cleared, verdict, live}
 use Rattle.theory.specs.Judge.{Judgement, given, withheld, judgement}
 use Rattle.theory.specs.Rooms
-use Rattle.site.specs.Site.{Shown, entry-columns, site-refusal, unless-refused, holding, blank}
+use Rattle.site.specs.Site.{Shown, entry_columns, site_refusal, unless_refused, holding, blank}
 
 -- The columns of s hold the automaton of e, and zero beyond it.
-unfoldable pub automaton-in : Expression → Shown → Handed
+unfoldable pub automaton_in : Expression → Shown → Handed
 unfolding states accepting arcs
-automaton-in e s = handed (length (states e)) (filled (length s.accepting) (accepting e)) (length (arcs e)) (filled-arcs s.arcs (arcs e))
+automaton_in e s = handed (length (states e)) (filled (length s.accepting) (accepting e)) (length (arcs e)) (filled_arcs s.arcs (arcs e))
 
 -- What is handed on is the automaton of the expression that the text writes, in columns that have room for it.
 pub record Sited (text : Text) (h : Handed) : Type 0 where
   pub expression : Expression
   pub writable : Writable expression
   pub spelled : written expression ≡ text
-  pub few-entries : entries expression ≤ Rooms.entries
+  pub few_entries : entries expression ≤ Rooms.entries
   pub lent : Shown
-  pub fits : (site-refusal expression lent).number ≡ 0
-  pub is : h ≡ automaton-in expression lent
+  pub fits : (site_refusal expression lent).number ≡ 0
+  pub is : h ≡ automaton_in expression lent
 
 -- Whatever is answered of the expression that the text writes.
 abbrev pub OfText : Text → (Expression → Type 0) → Type 0
@@ -46,14 +46,14 @@ pub record JudgedOver (text : Text) (w : Word) (k : Work) (answer : Judgement) (
 
 -- 01: the reader's refusals, then the builder's, then the matcher's 11; else the verdict.
 unfoldable pub told : Reading → Shown → Work → Word → Judgement
-unfolding site-refusal automaton-in judgement
-told (read e) s k w = unless-refused (site-refusal e s) (judgement (automaton-in e s) k w) (withheld (site-refusal e s))
+unfolding site_refusal automaton_in judgement
+told (read e) s k w = unless_refused (site_refusal e s) (judgement (automaton_in e s) k w) (withheld (site_refusal e s))
 told (refused r) s k w = withheld r
 
 -- What `judge` owes: the answer and every lent column at exit, and the demand wherever the call is not refused.
 pub record JudgesText (text : Text) (w : Word) (s : Shown) (k : Work) (answer : Judgement) (s' : Shown) (k' : Work) : Type 0 where
   pub reading : Reading
-  pub due : Due text entry-columns reading
+  pub due : Due text entry_columns reading
   pub answers : answer ≡ told reading s k w
   pub judges : answer.refusal.number ≡ 0 → OfText text (Judges w answer)
   pub holds : answer.refusal.number ≡ 0 → OfText text (λ e. s' ≡ holding e s)

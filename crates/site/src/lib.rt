@@ -4,8 +4,8 @@ pub mod totals;
 
 ghost use Rattle.std.specs.Prelude.{◌≡◌, length, get_or, eqb};
 ghost use Rattle.theory.specs.Kind;
-ghost use Rattle.theory.specs.Below.{count-below};
-ghost use Rattle.theory.specs.Arcs.{arc-columns};
+ghost use Rattle.theory.specs.Below.{count_below};
+ghost use Rattle.theory.specs.Arcs.{arc_columns};
 ghost use Rattle.theory.specs.Record.{handed, work, LongEnough};
 ghost use Rattle.matcher.specs.Answer.{values as judged};
 ghost use Rattle.site.specs.Site.{shown, blank, Made};
@@ -111,7 +111,7 @@ fn clear(accepting: &mut [u8], from: &mut [u16], letter: &mut [u8], to: &mut [u1
 
 // 2026-01: the entries that are letters.
 fn letters(kind: &[u8]) -> usize
-    ensures { result ≡ count-below (length kind.now) (λ i. eqb (get_or kind.now i 0) Kind.letter) }
+    ensures { result ≡ count_below (length kind.now) (λ i. eqb (get_or kind.now i 0) Kind.letter) }
 {
     let mut n = 0;
     for i in 0..kind.len() {
@@ -135,7 +135,7 @@ pub fn verdict(
     current: &mut [u64],
     next: &mut [u64],
 ) -> Judgement
-    requires sited { Sited text.now (handed states accepting.now arcs (arc-columns from.now letter.now to.now)) }
+    requires sited { Sited text.now (handed states accepting.now arcs (arc_columns from.now letter.now to.now)) }
     requires long_enough { LongEnough (work current.old next.old) states }
     ensures { JudgedOver text.now «record».now (work current.old next.old) (judged result)
         (work current.new next.new) }

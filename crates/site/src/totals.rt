@@ -2,7 +2,7 @@
 
 ghost use Rattle.std.specs.Prelude.{◌≡◌};
 ghost use Rattle.site.specs.Values.{values as reported};
-ghost use Rattle.site.specs.Totals.{values, of_one, with-report, Fits, HasEntry};
+ghost use Rattle.site.specs.Totals.{values, of_one, with_report, Fits, HasEntry};
 
 use crate::Site;
 
@@ -71,8 +71,8 @@ fn of_one(site: Site) -> Totals
 
 // The totals with what one more text came to.
 pub fn with(totals: Totals, site: Site) -> Totals
-    requires { HasEntry (reported site) × Fits (with-report (values totals) (reported site)) }
-    ensures { values result ≡ with-report (values totals) (reported site) }
+    requires { HasEntry (reported site) × Fits (with_report (values totals) (reported site)) }
+    ensures { values result ≡ with_report (values totals) (reported site) }
 {
     let one = of_one(site);
     Totals {

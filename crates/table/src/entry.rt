@@ -1,7 +1,7 @@
 // What can be wrong with an entry by itself: refusals 4 to 7.
 
 ghost use Rattle.std.specs.Prelude.{◌≡◌, length};
-ghost use Rattle.theory.specs.Table.{table, row, meaning, fields_fit, row-children, all-smaller, entry-fault, first-fault};
+ghost use Rattle.theory.specs.Table.{table, row, meaning, fields_fit, row_children, all_smaller, entry_fault, first_fault};
 ghost use Rattle.columns.specs.Row.{as_row};
 ghost use Rattle.table.specs.Checked.{Scanned};
 
@@ -23,7 +23,7 @@ fn fields_fit(w: Row) -> bool
 
 // 01: "A child's number is smaller than its parent's."
 fn children_smaller(i: usize, w: Row) -> bool
-    ensures { result ≡ all-smaller i (row-children (as_row w)) }
+    ensures { result ≡ all_smaller i (row_children (as_row w)) }
 {
     match w.children() {
         Children::Nothing => true,
@@ -34,7 +34,7 @@ fn children_smaller(i: usize, w: Row) -> bool
 
 // The number of the refusal of entry i of `entries`, or 0.
 fn fault(entries: usize, i: usize, w: Row) -> u8
-    ensures { result ≡ entry-fault entries i (as_row w) }
+    ensures { result ≡ entry_fault entries i (as_row w) }
 {
     let kind = w.kind;
     if kind::LAST < kind {
@@ -55,8 +55,8 @@ fn fault(entries: usize, i: usize, w: Row) -> u8
 // 01: "entries from 0 upward, each checked for 4, 5, 6, 7".
 pub fn entries_checked(kind: &[u8], left: &[u16], right: &[u16]) -> super::Checked
     requires { (length left.now ≡ length kind.now) × (length right.now ≡ length kind.now) }
-    ensures { Scanned result (first-fault
-        (λ i. entry-fault (length kind.now) i (row (table kind.now left.now right.now) i))
+    ensures { Scanned result (first_fault
+        (λ i. entry_fault (length kind.now) i (row (table kind.now left.now right.now) i))
         0 (length kind.now)) }
 {
     let mut i = 0;

@@ -3,7 +3,7 @@
 mod entry;
 mod naming;
 
-ghost use Rattle.theory.specs.Table.{table, table-refusal};
+ghost use Rattle.theory.specs.Table.{table, table_refusal};
 ghost use Rattle.table.specs.Checked.{Scanned};
 
 use theory::{limit, refusal};
@@ -15,7 +15,7 @@ pub enum Checked {
 }
 
 pub fn check(kind: &[u8], left: &[u16], right: &[u16]) -> Checked
-    ensures { Scanned result (table-refusal (table kind.now left.now right.now)) }
+    ensures { Scanned result (table_refusal (table kind.now left.now right.now)) }
 {
     if left.len() != kind.len() || right.len() != kind.len() {
         return Checked::Refused {

@@ -1,7 +1,7 @@
 // How often an entry is named as a child: refusal 8.
 
 ghost use Rattle.std.specs.Prelude.{◌≡◌, [], ◌∷◌, pred, length};
-ghost use Rattle.theory.specs.Table.{table, row-children, times, named, naming-fault, first-fault};
+ghost use Rattle.theory.specs.Table.{table, row_children, times, named, naming_fault, first_fault};
 ghost use Rattle.columns.specs.Row.{as_row};
 ghost use Rattle.table.specs.Checked.{Scanned};
 
@@ -15,7 +15,7 @@ fn times_as(child: usize, i: usize) -> usize
 }
 
 fn times_in_row(w: Row, i: usize) -> usize
-    ensures { result ≡ times i (row-children (as_row w)) }
+    ensures { result ≡ times i (row_children (as_row w)) }
 {
     match w.children() {
         Children::Nothing => 0,
@@ -40,7 +40,7 @@ fn times_named(kind: &[u8], left: &[u16], right: &[u16], i: usize) -> usize
 // 01: "an entry other than the last not named exactly once; the smallest such".
 pub fn naming_checked(kind: &[u8], left: &[u16], right: &[u16]) -> super::Checked
     requires { (length left.now ≡ length kind.now) × (length right.now ≡ length kind.now) }
-    ensures { Scanned result (first-fault (naming-fault (table kind.now left.now right.now))
+    ensures { Scanned result (first_fault (naming_fault (table kind.now left.now right.now))
         0 (pred (length kind.now))) }
 {
     let mut i = 0;

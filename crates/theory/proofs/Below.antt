@@ -10,26 +10,26 @@ use mathlib.Core.Logic.{◌⊎◌, inl, inr, ⊎_elim, ◌↔◌}
 use mathlib.Core.Bool.{Bool, true, false, cond, ◌||◌, ◌&&◌, or_assoc, or-false, false≢true}
 use mathlib.Core.List.Memᴰ
 use mathlib.Core.List.{[], ◌∷◌}
-use Rattle.theory.specs.Below.{some_below, all-below, count-below, HowMany}
+use Rattle.theory.specs.Below.{some_below, all_below, count_below, HowMany}
 use Rattle.theory.proofs.Distinct.{no_longer}
 
 -- ---- Only the numbers below n count
 
-pub some-cong : (n : ℕ) (p q : ℕ → Bool) → ((k : ℕ) → k < n → p k ≡ q k) → some_below n p ≡ some_below n q
+pub some_cong : (n : ℕ) (p q : ℕ → Bool) → ((k : ℕ) → k < n → p k ≡ q k) → some_below n p ≡ some_below n q
 unfolding some_below
-some-cong zero p q e = refl
-some-cong (suc n) p q e = ap₂ ◌||◌ (some-cong n p q (λ k l. e k (omega arith))) (e n (le_refl (suc n)))
+some_cong zero p q e = refl
+some_cong (suc n) p q e = ap₂ ◌||◌ (some_cong n p q (λ k l. e k (omega arith))) (e n (le_refl (suc n)))
 
-pub count-cong : (n : ℕ) (p q : ℕ → Bool) → ((k : ℕ) → k < n → p k ≡ q k) → count-below n p ≡ count-below n q
-unfolding count-below
-count-cong zero p q e = refl
-count-cong (suc n) p q e =
-    ap₂ (λ (b : Bool) (c : ℕ). cond b (suc c) c) (e n (le_refl (suc n))) (count-cong n p q (λ k l. e k (omega arith)))
+pub count_cong : (n : ℕ) (p q : ℕ → Bool) → ((k : ℕ) → k < n → p k ≡ q k) → count_below n p ≡ count_below n q
+unfolding count_below
+count_cong zero p q e = refl
+count_cong (suc n) p q e =
+    ap₂ (λ (b : Bool) (c : ℕ). cond b (suc c) c) (e n (le_refl (suc n))) (count_cong n p q (λ k l. e k (omega arith)))
 
-pub all-cong : (n : ℕ) (p q : ℕ → Bool) → ((k : ℕ) → k < n → p k ≡ q k) → all-below n p ≡ all-below n q
-unfolding all-below
-all-cong zero p q e = refl
-all-cong (suc n) p q e = ap₂ ◌&&◌ (all-cong n p q (λ k l. e k (omega arith))) (e n (le_refl (suc n)))
+pub all_cong : (n : ℕ) (p q : ℕ → Bool) → ((k : ℕ) → k < n → p k ≡ q k) → all_below n p ≡ all_below n q
+unfolding all_below
+all_cong zero p q e = refl
+all_cong (suc n) p q e = ap₂ ◌&&◌ (all_cong n p q (λ k l. e k (omega arith))) (e n (le_refl (suc n)))
 
 -- ---- From one number, and to one
 
@@ -52,28 +52,28 @@ some_of (suc n) p e = go (some_below n p) (λ h. some_of n p h) e
     go true ih h = let r = ih refl in (r.0, le_step r.1, r.2)
     go false ih h = (n, le_refl (suc n), h)
 
-pub all-at : (n : ℕ) (p : ℕ → Bool) (k : ℕ) → all-below n p ≡ true → k < n → p k ≡ true
-unfolding all-below
-all-at zero p k e l = absurd (not-suc-le-zero l)
-all-at (suc n) p k e l = go (all-below n p) (λ h m. all-at n p k h m) e (eq-or-lt_of_le (le_of_suc-le-suc l))
+pub all_at : (n : ℕ) (p : ℕ → Bool) (k : ℕ) → all_below n p ≡ true → k < n → p k ≡ true
+unfolding all_below
+all_at zero p k e l = absurd (not-suc-le-zero l)
+all_at (suc n) p k e l = go (all_below n p) (λ h m. all_at n p k h m) e (eq-or-lt_of_le (le_of_suc-le-suc l))
   where
     go : (b : Bool) → (b ≡ true → k < n → p k ≡ true) → (b && p n) ≡ true → (k ≡ n) ⊎ (k < n) → p k ≡ true
     go true ih h (inl i) = subst (λ (m : ℕ). p m ≡ true) (sym i) h
     go true ih h (inr m) = ih refl m
     go false ih h d = absurd (false≢true h)
 
-pub all-each : (n : ℕ) (p : ℕ → Bool) → ((k : ℕ) → k < n → p k ≡ true) → all-below n p ≡ true
-unfolding all-below
-all-each zero p h = refl
-all-each (suc n) p h = ap₂ ◌&&◌ (all-each n p (λ k l. h k (omega arith))) (h n (le_refl (suc n)))
+pub all_each : (n : ℕ) (p : ℕ → Bool) → ((k : ℕ) → k < n → p k ≡ true) → all_below n p ≡ true
+unfolding all_below
+all_each zero p h = refl
+all_each (suc n) p h = ap₂ ◌&&◌ (all_each n p (λ k l. h k (omega arith))) (h n (le_refl (suc n)))
 
-pub some-none : (n : ℕ) (p : ℕ → Bool) → ((k : ℕ) → k < n → p k ≡ false) → some_below n p ≡ false
+pub some_none : (n : ℕ) (p : ℕ → Bool) → ((k : ℕ) → k < n → p k ≡ false) → some_below n p ≡ false
 unfolding some_below
-some-none zero p h = refl
-some-none (suc n) p h = ap₂ ◌||◌ (some-none n p (λ k l. h k (omega arith))) (h n (le_refl (suc n)))
+some_none zero p h = refl
+some_none (suc n) p h = ap₂ ◌||◌ (some_none n p (λ k l. h k (omega arith))) (h n (le_refl (suc n)))
 
-pub count_none : (n : ℕ) (p : ℕ → Bool) → ((k : ℕ) → k < n → p k ≡ false) → count-below n p ≡ 0
-unfolding count-below
+pub count_none : (n : ℕ) (p : ℕ → Bool) → ((k : ℕ) → k < n → p k ≡ false) → count_below n p ≡ 0
+unfolding count_below
 count_none zero p h = refl
 count_none (suc n) p h =
     ap₂ (λ (b : Bool) (c : ℕ). cond b (suc c) c) (h n (le_refl (suc n))) (count_none n p (λ k l. h k (omega arith)))
@@ -90,43 +90,43 @@ each_below (suc n) P d = go (d n) (each_below n P d)
 
 -- ---- In two parts
 
-pub some-add : (m n : ℕ) (p : ℕ → Bool) → some_below (m + n) p ≡ (some_below m p || some_below n (λ j. p (m + j)))
+pub some_add : (m n : ℕ) (p : ℕ → Bool) → some_below (m + n) p ≡ (some_below m p || some_below n (λ j. p (m + j)))
 unfolding some_below
-some-add m zero p = rw add-zero (sym (or-false (some_below m p)))
-some-add m (suc n) p =
-    rw add-suc (ap (λ (b : Bool). b || p (m + n)) (some-add m n p) ∙ or_assoc (some_below m p) (some_below n (λ j. p (m + j))) (p (m + n)))
+some_add m zero p = rw add-zero (sym (or-false (some_below m p)))
+some_add m (suc n) p =
+    rw add-suc (ap (λ (b : Bool). b || p (m + n)) (some_add m n p) ∙ or_assoc (some_below m p) (some_below n (λ j. p (m + j))) (p (m + n)))
 
-pub count_add : (m n : ℕ) (p : ℕ → Bool) → count-below (m + n) p ≡ count-below m p + count-below n (λ j. p (m + j))
-unfolding count-below
-count_add m zero p = rw add-zero (sym (add-zero (count-below m p)))
+pub count_add : (m n : ℕ) (p : ℕ → Bool) → count_below (m + n) p ≡ count_below m p + count_below n (λ j. p (m + j))
+unfolding count_below
+count_add m zero p = rw add-zero (sym (add-zero (count_below m p)))
 count_add m (suc n) p = rw add-suc (go (p (m + n)) (count_add m n p))
   where
-    go : (b : Bool) → count-below (m + n) p ≡ count-below m p + count-below n (λ j. p (m + j))
-        → cond b (suc (count-below (m + n) p)) (count-below (m + n) p)
-        ≡ count-below m p + cond b (suc (count-below n (λ j. p (m + j)))) (count-below n (λ j. p (m + j)))
+    go : (b : Bool) → count_below (m + n) p ≡ count_below m p + count_below n (λ j. p (m + j))
+        → cond b (suc (count_below (m + n) p)) (count_below (m + n) p)
+        ≡ count_below m p + cond b (suc (count_below n (λ j. p (m + j)))) (count_below n (λ j. p (m + j)))
     go true e = omega arith
     go false e = e
 
 -- Where p holds of nothing from n on, a longer count says the same.
-pub count-longer : (n m : ℕ) (p : ℕ → Bool) → n ≤ m → ((k : ℕ) → n ≤ k → p k ≡ false) → count-below m p ≡ count-below n p
-unfolding count-below
-count-longer n m p l h =
-    le_ind (λ (k : ℕ). count-below k p ≡ count-below n p) refl (λ k nk e. ap₂ (λ (b : Bool) (c : ℕ). cond b (suc c) c) (h k nk) e) m l
+pub count_longer : (n m : ℕ) (p : ℕ → Bool) → n ≤ m → ((k : ℕ) → n ≤ k → p k ≡ false) → count_below m p ≡ count_below n p
+unfolding count_below
+count_longer n m p l h =
+    le_ind (λ (k : ℕ). count_below k p ≡ count_below n p) refl (λ k nk e. ap₂ (λ (b : Bool) (c : ℕ). cond b (suc c) c) (h k nk) e) m l
 
 -- ---- The first number apart
 
-pub some-front : (n : ℕ) (p : ℕ → Bool) → some_below (suc n) p ≡ (p 0 || some_below n (λ j. p (suc j)))
+pub some_front : (n : ℕ) (p : ℕ → Bool) → some_below (suc n) p ≡ (p 0 || some_below n (λ j. p (suc j)))
 unfolding some_below
-some-front zero p = sym (or-false (p 0))
-some-front (suc n) p = ap (λ (b : Bool). b || p (suc n)) (some-front n p) ∙ or_assoc (p 0) (some_below n (λ j. p (suc j))) (p (suc n))
+some_front zero p = sym (or-false (p 0))
+some_front (suc n) p = ap (λ (b : Bool). b || p (suc n)) (some_front n p) ∙ or_assoc (p 0) (some_below n (λ j. p (suc j))) (p (suc n))
 
-pub count-front : (n : ℕ) (p : ℕ → Bool) → count-below (suc n) p ≡ cond (p 0) (suc (count-below n (λ j. p (suc j)))) (count-below n (λ j. p (suc j)))
-unfolding count-below
-count-front zero p = refl
-count-front (suc n) p = go (p (suc n)) (p 0) (count-below n (λ j. p (suc j))) (count-front n p)
+pub count_front : (n : ℕ) (p : ℕ → Bool) → count_below (suc n) p ≡ cond (p 0) (suc (count_below n (λ j. p (suc j)))) (count_below n (λ j. p (suc j)))
+unfolding count_below
+count_front zero p = refl
+count_front (suc n) p = go (p (suc n)) (p 0) (count_below n (λ j. p (suc j))) (count_front n p)
   where
-    go : (b d : Bool) (rest : ℕ) → count-below (suc n) p ≡ cond d (suc rest) rest
-        → cond b (suc (count-below (suc n) p)) (count-below (suc n) p) ≡ cond d (suc (cond b (suc rest) rest)) (cond b (suc rest) rest)
+    go : (b d : Bool) (rest : ℕ) → count_below (suc n) p ≡ cond d (suc rest) rest
+        → cond b (suc (count_below (suc n) p)) (count_below (suc n) p) ≡ cond d (suc (cond b (suc rest) rest)) (cond b (suc rest) rest)
     go true true rest e = ap suc e
     go true false rest e = ap suc e
     go false true rest e = e
@@ -138,45 +138,45 @@ pub some_more : (n : ℕ) (p : ℕ → Bool) → some_below (n + 1) p ≡ (some_
 unfolding some_below
 some_more n p = rw add-one
 
-all_more : (n : ℕ) (p : ℕ → Bool) → all-below (n + 1) p ≡ (all-below n p && p n)
-unfolding all-below
+all_more : (n : ℕ) (p : ℕ → Bool) → all_below (n + 1) p ≡ (all_below n p && p n)
+unfolding all_below
 all_more n p = rw add-one
 
 pub some_next : (i : ℕ) (p : ℕ → Bool) {b : Bool} → b ≡ some_below i p → (b || p i) ≡ some_below (i + 1) p
 some_next i p e = ap (λ (d : Bool). d || p i) e ∙ sym (some_more i p)
 
-pub all-next : (i : ℕ) (p : ℕ → Bool) {b : Bool} → b ≡ all-below i p → (b && p i) ≡ all-below (i + 1) p
-all-next i p e = ap (λ (d : Bool). d && p i) e ∙ sym (all_more i p)
+pub all_next : (i : ℕ) (p : ℕ → Bool) {b : Bool} → b ≡ all_below i p → (b && p i) ≡ all_below (i + 1) p
+all_next i p e = ap (λ (d : Bool). d && p i) e ∙ sym (all_more i p)
 
 -- What holds where a loop stops holds of n.
-pub at-end : {A : Type 0} (f : ℕ → A) {a : A} {i n : ℕ} → a ≡ f i → i ≤ n → n ≤ i → a ≡ f n
-at-end f e l m = e ∙ ap f (le_antisymm l m)
+pub at_end : {A : Type 0} (f : ℕ → A) {a : A} {i n : ℕ} → a ≡ f i → i ≤ n → n ≤ i → a ≡ f n
+at_end f e l m = e ∙ ap f (le_antisymm l m)
 
 -- ---- How many
 
-pub how-many-once : {P : ℕ → Type 0} {m n : ℕ} → HowMany P m → HowMany P n → m ≡ n
-how-many-once h k =
+pub how_many_once : {P : ℕ → Type 0} {m n : ℕ} → HowMany P m → HowMany P n → m ≡ n
+how_many_once h k =
     h.many
     ∙ le_antisymm (no_longer ℕ_discrete h.those k.those h.once (λ t m. (k.exactly t).1 ((h.exactly t).0 m)))
     (no_longer ℕ_discrete k.those h.those k.once (λ t m. (h.exactly t).1 ((k.exactly t).0 m)))
     ∙ sym k.many
 
-pub how-many-cong : {P Q : ℕ → Type 0} {n : ℕ} → ((t : ℕ) → P t ↔ Q t) → HowMany P n → HowMany Q n
-how-many-cong e h = record { those = h.those; once = h.once; exactly = λ t. Iff.trans (h.exactly t) (e t); many = h.many }
+pub how_many_cong : {P Q : ℕ → Type 0} {n : ℕ} → ((t : ℕ) → P t ↔ Q t) → HowMany P n → HowMany Q n
+how_many_cong e h = record { those = h.those; once = h.once; exactly = λ t. Iff.trans (h.exactly t) (e t); many = h.many }
 
 -- A count is how many numbers below n pass the test.
-pub count-how-many : (n : ℕ) (p : ℕ → Bool) → HowMany (λ t. (t < n) × (p t ≡ true)) (count-below n p)
-unfolding count-below
-count-how-many zero p = record {
+pub count_how_many : (n : ℕ) (p : ℕ → Bool) → HowMany (λ t. (t < n) × (p t ≡ true)) (count_below n p)
+unfolding count_below
+count_how_many zero p = record {
   those = [];
   once = tt;
   exactly = λ t. (λ m. absurd (Memᴰ.not-nil m), λ (l, _). absurd (not-suc-le-zero l));
   many = refl;
 }
-count-how-many (suc n) p = go (p n) refl (count-how-many n p)
+count_how_many (suc n) p = go (p n) refl (count_how_many n p)
   where
-    go : (b : Bool) → p n ≡ b → HowMany (λ t. (t < n) × (p t ≡ true)) (count-below n p)
-        → HowMany (λ t. (t < suc n) × (p t ≡ true)) (cond b (suc (count-below n p)) (count-below n p))
+    go : (b : Bool) → p n ≡ b → HowMany (λ t. (t < n) × (p t ≡ true)) (count_below n p)
+        → HowMany (λ t. (t < suc n) × (p t ≡ true)) (cond b (suc (count_below n p)) (count_below n p))
     go true q h = record {
       those = n ∷ h.those;
       once = (λ m. let (l, _) = (h.exactly n).0 m in omega arith, h.once);

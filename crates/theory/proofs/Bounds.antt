@@ -15,81 +15,81 @@ use Rattle.theory.specs.Limit.{last_letter}
 use Rattle.theory.specs.Expression.{Expression, same, ε, letters, entries, parts}
 use Rattle.theory.specs.Distinct.{place, NoRepeats, Within}
 use Rattle.theory.specs.Derivative.{derivative}
-use Rattle.theory.specs.Automaton.{ascending, alphabet, states, expressions, arc, leaving, leaving-all, arcs}
-use Rattle.theory.proofs.Distinct.{distinct_of, distinct-no-repeats, no_longer}
-use Rattle.theory.proofs.Derivative.{derivative-no-repeats}
-use Rattle.theory.proofs.Members.{flatMap-of, length-flatMap-among}
-use Rattle.theory.proofs.Support.{support, stays, support-stays, support-bound}
-use Rattle.theory.proofs.States.{derived-support, derived-bound, states-derived, states-no-repeats}
-use Rattle.theory.proofs.Bounds.Letters.{derivative-letter, support-letters}
-use Rattle.theory.proofs.Bounds.Parts.{cover, cover-ε, parts-cover, cover-bound}
+use Rattle.theory.specs.Automaton.{ascending, alphabet, states, expressions, arc, leaving, leaving_all, arcs}
+use Rattle.theory.proofs.Distinct.{distinct_of, distinct_no_repeats, no_longer}
+use Rattle.theory.proofs.Derivative.{derivative_no_repeats}
+use Rattle.theory.proofs.Members.{flatMap_of, length_flatMap_among}
+use Rattle.theory.proofs.Support.{support, stays, support_stays, support_bound}
+use Rattle.theory.proofs.States.{derived_support, derived_bound, states_derived, states_no_repeats}
+use Rattle.theory.proofs.Bounds.Letters.{derivative_letter, support_letters}
+use Rattle.theory.proofs.Bounds.Parts.{cover, cover_ε, parts_cover, cover_bound}
 
-pub states-bound : (e : Expression) → length (states e) ≤ 2 ^ length (letters e)
-states-bound e = derived-bound e (states e) (states-no-repeats e) (states-derived e)
+pub states_bound : (e : Expression) → length (states e) ≤ 2 ^ length (letters e)
+states_bound e = derived_bound e (states e) (states_no_repeats e) (states_derived e)
 
-pub states-support : (e : Expression) → Within (states e) (e ∷ support e)
-states-support e m h = derived-support (states-derived e m h)
+pub states_support : (e : Expression) → Within (states e) (e ∷ support e)
+states_support e m h = derived_support (states_derived e m h)
 
 -- ---- Expressions
 
-pub expressions-bound : (e : Expression) → length (expressions e) ≤ entries e * 2 ^ length (letters e) + 1
+pub expressions_bound : (e : Expression) → length (expressions e) ≤ entries e * 2 ^ length (letters e) + 1
 unfolding expressions
-expressions-bound e = le_trans (no_longer same (expressions e) (cover e) (distinct-no-repeats same (ε ∷ flat_map parts (states e))) within) (cover-bound e)
+expressions_bound e = le_trans (no_longer same (expressions e) (cover e) (distinct_no_repeats same (ε ∷ flat_map parts (states e))) within) (cover_bound e)
   where
     within : Within (expressions e) (cover e)
     within z h =
-        ⊎_elim (cover-ε e z) (λ t. let r = flatMap-of parts (states e) t in parts-cover e r.0 (states-support e r.0 r.1) z r.2)
+        ⊎_elim (cover_ε e z) (λ t. let r = flatMap_of parts (states e) t in parts_cover e r.0 (states_support e r.0 r.1) z r.2)
         (Memᴰ.cases_cons (distinct_of same (ε ∷ flat_map parts (states e)) z h))
 
 -- ---- Arcs
 
-ascending-above : (first n : ℕ) {a : ℕ} → Memᴰ a (ascending first n) → first ≤ a
+ascending_above : (first n : ℕ) {a : ℕ} → Memᴰ a (ascending first n) → first ≤ a
 unfolding ascending
-ascending-above first zero h = absurd (Memᴰ.not-nil h)
-ascending-above first (suc n) h = ⊎_elim (λ e. omega arith) (λ t. let l = ascending-above (suc first) n t in omega arith) (Memᴰ.cases_cons h)
+ascending_above first zero h = absurd (Memᴰ.not-nil h)
+ascending_above first (suc n) h = ⊎_elim (λ e. omega arith) (λ t. let l = ascending_above (suc first) n t in omega arith) (Memᴰ.cases_cons h)
 
-ascending-no-repeats : (first n : ℕ) → NoRepeats (ascending first n)
+ascending_no_repeats : (first n : ℕ) → NoRepeats (ascending first n)
 unfolding ascending
-ascending-no-repeats first zero = tt
-ascending-no-repeats first (suc n) = (λ h. let l = ascending-above (suc first) n h in omega arith, ascending-no-repeats (suc first) n)
+ascending_no_repeats first zero = tt
+ascending_no_repeats first (suc n) = (λ h. let l = ascending_above (suc first) n h in omega arith, ascending_no_repeats (suc first) n)
 
-pub alphabet-no-repeats : NoRepeats alphabet
+pub alphabet_no_repeats : NoRepeats alphabet
 unfolding alphabet
-alphabet-no-repeats = ascending-no-repeats 1 last_letter
+alphabet_no_repeats = ascending_no_repeats 1 last_letter
 
 module _ (e : Expression) where
-  derivative-bound : (a : ℕ) (x : Expression) → Memᴰ x (e ∷ support e) → length (derivative a x) ≤ 2 ^ length (letters e)
-  derivative-bound a x h =
-      let l = no_longer same (derivative a x) (support e) (derivative-no-repeats a x) (stays (support-stays e) x h a) in
-      let b = support-bound e in
+  derivative_bound : (a : ℕ) (x : Expression) → Memᴰ x (e ∷ support e) → length (derivative a x) ≤ 2 ^ length (letters e)
+  derivative_bound a x h =
+      let l = no_longer same (derivative a x) (support e) (derivative_no_repeats a x) (stays (support_stays e) x h a) in
+      let b = support_bound e in
       omega arith
 
   -- By each of the letters of e at most as many members as there may be states, and by any other letter none.
-  leaving-bound : (s : List Expression) (i : ℕ) (x : Expression) → Memᴰ x (e ∷ support e)
+  leaving_bound : (s : List Expression) (i : ℕ) (x : Expression) → Memᴰ x (e ∷ support e)
       → length (leaving s i x) ≤ length (letters e) * 2 ^ length (letters e)
   unfolding leaving
-  leaving-bound s i x h =
-      length-flatMap-among (λ a. map (λ m. arc i a (place same m s)) (derivative a x)) (2 ^ length (letters e)) ℕ_discrete alphabet (letters e)
-      alphabet-no-repeats (λ a. rw length-map (derivative-bound a x h))
+  leaving_bound s i x h =
+      length_flatMap_among (λ a. map (λ m. arc i a (place same m s)) (derivative a x)) (2 ^ length (letters e)) ℕ_discrete alphabet (letters e)
+      alphabet_no_repeats (λ a. rw length-map (derivative_bound a x h))
       (λ a z t. let r = Memᴰ.of_map (λ m. arc i a (place same m s)) (derivative a x) t in
-      support-letters e x h a (derivative-letter a x r.0 r.1))
+      support_letters e x h a (derivative_letter a x r.0 r.1))
 
-  leaving-all-bound : (s : List Expression) (i : ℕ) (xs : List Expression) → Within xs (e ∷ support e)
-      → length (leaving-all s i xs) ≤ length xs * (length (letters e) * 2 ^ length (letters e))
-  unfolding leaving-all
-  leaving-all-bound s i [] w = zero-le
-  leaving-all-bound s i (x ∷ xs) w =
-      let b = leaving-bound s i x (w x (Memᴰ.head refl)) in
-      let t = leaving-all-bound s (suc i) xs (λ m h. w m (Memᴰ.tail h)) in
+  leaving_all_bound : (s : List Expression) (i : ℕ) (xs : List Expression) → Within xs (e ∷ support e)
+      → length (leaving_all s i xs) ≤ length xs * (length (letters e) * 2 ^ length (letters e))
+  unfolding leaving_all
+  leaving_all_bound s i [] w = zero-le
+  leaving_all_bound s i (x ∷ xs) w =
+      let b = leaving_bound s i x (w x (Memᴰ.head refl)) in
+      let t = leaving_all_bound s (suc i) xs (λ m h. w m (Memᴰ.tail h)) in
       rw (length-append, suc-mul) (omega arith)
 
 square : (m : ℕ) → 2 ^ m * 2 ^ m ≡ 4 ^ m
 square zero = refl
 square (suc m) = let ih = square m in rw (two-pow-succ, pow-succ' 4 m, mul-add, add-mul) (omega arith)
 
-pub arcs-bound : (e : Expression) → length (arcs e) ≤ length (letters e) * 4 ^ length (letters e)
+pub arcs_bound : (e : Expression) → length (arcs e) ≤ length (letters e) * 4 ^ length (letters e)
 unfolding arcs
-arcs-bound e =
+arcs_bound e =
     let m = length (letters e) in
-    le_trans (leaving-all-bound e (states e) 0 (states e) (states-support e))
-    (le_trans (mul-le-mul (states-bound e) (le_refl (m * 2 ^ m))) (le_of_eq (mul_left_comm (2 ^ m) m (2 ^ m) ∙ ap (λ n. m * n) (square m))))
+    le_trans (leaving_all_bound e (states e) 0 (states e) (states_support e))
+    (le_trans (mul-le-mul (states_bound e) (le_refl (m * 2 ^ m))) (le_of_eq (mul_left_comm (2 ^ m) m (2 ^ m) ∙ ap (λ n. m * n) (square m))))

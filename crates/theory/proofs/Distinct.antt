@@ -8,12 +8,12 @@ use mathlib.Core.Logic.{◌⊎◌, inl, inr, ⊎_elim}
 use mathlib.Core.List.Memᴰ
 use mathlib.Core.List.{List, [], ◌∷◌, ◌++◌, Memᴰ, append-nil}
 use lib.ListN.{length, get_or}
-use Rattle.theory.specs.Distinct.{unless, here-or, without, distinct, beyond, place, NoRepeats, Within}
+use Rattle.theory.specs.Distinct.{unless, here_or, without, distinct, beyond, place, NoRepeats, Within}
 
-pub getD-member : {A : Type 0} (ys : List A) (i : ℕ) (d : A) → i < length ys → Memᴰ (get_or ys i d) ys
-getD-member [] i d h = absurd (not-suc-le-zero h)
-getD-member (y ∷ ys) zero d h = Memᴰ.head refl
-getD-member (y ∷ ys) (suc i) d h = Memᴰ.tail (getD-member ys i d (le_of_suc-le-suc h))
+pub getD_member : {A : Type 0} (ys : List A) (i : ℕ) (d : A) → i < length ys → Memᴰ (get_or ys i d) ys
+getD_member [] i d h = absurd (not-suc-le-zero h)
+getD_member (y ∷ ys) zero d h = Memᴰ.head refl
+getD_member (y ∷ ys) (suc i) d h = Memᴰ.tail (getD_member ys i d (le_of_suc-le-suc h))
 
 module _ {A : Type 0} (same : Discrete A) where
   pub member? : (x : A) (xs : List A) → Dec (Memᴰ x xs)
@@ -27,9 +27,9 @@ module _ {A : Type 0} (same : Discrete A) where
 
   -- ---- `without`
 
-  pub without-here : (x y : A) (ys : List A) → x ≡ y → without same x (y ∷ ys) ≡ without same x ys
+  pub without_here : (x y : A) (ys : List A) → x ≡ y → without same x (y ∷ ys) ≡ without same x ys
   unfolding without
-  without-here x y ys e = go (same x y)
+  without_here x y ys e = go (same x y)
     where
       go : (d : Dec (x ≡ y)) → unless d y (without same x ys) ≡ without same x ys
       go (yes p) = refl
@@ -44,10 +44,10 @@ module _ {A : Type 0} (same : Discrete A) where
       go (no k) = refl
 
   -- What is left is a member other than x.
-  pub without-of : (x : A) (ys : List A) {z : A} → Memᴰ z (without same x ys) → Memᴰ z ys × (z ≡ x → ⊥)
+  pub without_of : (x : A) (ys : List A) {z : A} → Memᴰ z (without same x ys) → Memᴰ z ys × (z ≡ x → ⊥)
   unfolding without
-  without-of x [] m = absurd (Memᴰ.not-nil m)
-  without-of x (y ∷ ys) {z} m = go (same x y) (λ k. without-of x ys k) m
+  without_of x [] m = absurd (Memᴰ.not-nil m)
+  without_of x (y ∷ ys) {z} m = go (same x y) (λ k. without_of x ys k) m
     where
       go : (d : Dec (x ≡ y)) → (Memᴰ z (without same x ys) → Memᴰ z ys × (z ≡ x → ⊥))
           → Memᴰ z (unless d y (without same x ys)) → Memᴰ z (y ∷ ys) × (z ≡ x → ⊥)
@@ -56,10 +56,10 @@ module _ {A : Type 0} (same : Discrete A) where
           ⊎_elim (λ e. (Memᴰ.head e, λ q. n (sym q ∙ e))) (λ t. (Memᴰ.tail (ih t).0, (ih t).1)) (Memᴰ.cases_cons k)
 
   -- Every member other than x is left.
-  pub to-without : (x : A) (ys : List A) {z : A} → Memᴰ z ys → (z ≡ x → ⊥) → Memᴰ z (without same x ys)
+  pub to_without : (x : A) (ys : List A) {z : A} → Memᴰ z ys → (z ≡ x → ⊥) → Memᴰ z (without same x ys)
   unfolding without
-  to-without x [] m n = absurd (Memᴰ.not-nil m)
-  to-without x (y ∷ ys) {z} m n = go (same x y) (λ t. to-without x ys t n) (Memᴰ.cases_cons m)
+  to_without x [] m n = absurd (Memᴰ.not-nil m)
+  to_without x (y ∷ ys) {z} m n = go (same x y) (λ t. to_without x ys t n) (Memᴰ.cases_cons m)
     where
       go : (d : Dec (x ≡ y)) → (Memᴰ z ys → Memᴰ z (without same x ys)) → (z ≡ y) ⊎ Memᴰ z ys
           → Memᴰ z (unless d y (without same x ys))
@@ -68,29 +68,29 @@ module _ {A : Type 0} (same : Discrete A) where
       go (no k) ih (inl e) = Memᴰ.head e
       go (no k) ih (inr t) = Memᴰ.tail (ih t)
 
-  pub without-no-repeats : (x : A) (ys : List A) → NoRepeats ys → NoRepeats (without same x ys)
+  pub without_no_repeats : (x : A) (ys : List A) → NoRepeats ys → NoRepeats (without same x ys)
   unfolding without
-  without-no-repeats x [] r = tt
-  without-no-repeats x (y ∷ ys) r = go (same x y) (without-no-repeats x ys r.1)
+  without_no_repeats x [] r = tt
+  without_no_repeats x (y ∷ ys) r = go (same x y) (without_no_repeats x ys r.1)
     where
       go : (d : Dec (x ≡ y)) → NoRepeats (without same x ys) → NoRepeats (unless d y (without same x ys))
       go (yes p) ih = ih
-      go (no n) ih = (λ m. r.0 (without-of x ys m).0, ih)
+      go (no n) ih = (λ m. r.0 (without_of x ys m).0, ih)
 
   -- Nothing is taken out where x does not stand.
-  pub without-absent : (x : A) (ys : List A) → (Memᴰ x ys → ⊥) → without same x ys ≡ ys
+  pub without_absent : (x : A) (ys : List A) → (Memᴰ x ys → ⊥) → without same x ys ≡ ys
   unfolding without
-  without-absent x [] n = refl
-  without-absent x (y ∷ ys) n = go (same x y) (without-absent x ys (λ m. n (Memᴰ.tail m)))
+  without_absent x [] n = refl
+  without_absent x (y ∷ ys) n = go (same x y) (without_absent x ys (λ m. n (Memᴰ.tail m)))
     where
       go : (d : Dec (x ≡ y)) → without same x ys ≡ ys → unless d y (without same x ys) ≡ y ∷ ys
       go (yes p) ih = absurd (n (Memᴰ.head p))
       go (no k) ih = ap {B = List A} (λ t. y ∷ t) ih
 
-  pub without-append : (x : A) (ys zs : List A) → without same x (ys ++ zs) ≡ without same x ys ++ without same x zs
+  pub without_append : (x : A) (ys zs : List A) → without same x (ys ++ zs) ≡ without same x ys ++ without same x zs
   unfolding without
-  without-append x [] zs = refl
-  without-append x (y ∷ ys) zs = go (same x y) (without-append x ys zs)
+  without_append x [] zs = refl
+  without_append x (y ∷ ys) zs = go (same x y) (without_append x ys zs)
     where
       go : (d : Dec (x ≡ y)) → without same x (ys ++ zs) ≡ without same x ys ++ without same x zs
           → unless d y (without same x (ys ++ zs)) ≡ unless d y (without same x ys) ++ without same x zs
@@ -103,7 +103,7 @@ module _ {A : Type 0} (same : Discrete A) where
   unfolding distinct
   distinct_of [] z m = m
   distinct_of (x ∷ xs) z m =
-      ⊎_elim (λ e. Memᴰ.head e) (λ t. Memᴰ.tail (distinct_of xs z (without-of x (distinct same xs) t).0)) (Memᴰ.cases_cons m)
+      ⊎_elim (λ e. Memᴰ.head e) (λ t. Memᴰ.tail (distinct_of xs z (without_of x (distinct same xs) t).0)) (Memᴰ.cases_cons m)
 
   pub to_distinct : (xs : List A) → Within xs (distinct same xs)
   unfolding distinct
@@ -114,19 +114,19 @@ module _ {A : Type 0} (same : Discrete A) where
           → Memᴰ z (x ∷ without same x (distinct same xs))
       go (yes e) ih h = Memᴰ.head e
       go (no n) ih (inl e) = Memᴰ.head e
-      go (no n) ih (inr t) = Memᴰ.tail (to-without x (distinct same xs) (ih t) n)
+      go (no n) ih (inr t) = Memᴰ.tail (to_without x (distinct same xs) (ih t) n)
 
-  pub distinct-no-repeats : (xs : List A) → NoRepeats (distinct same xs)
+  pub distinct_no_repeats : (xs : List A) → NoRepeats (distinct same xs)
   unfolding distinct
-  distinct-no-repeats [] = tt
-  distinct-no-repeats (x ∷ xs) =
-      (λ m. (without-of x (distinct same xs) m).1 refl, without-no-repeats x (distinct same xs) (distinct-no-repeats xs))
+  distinct_no_repeats [] = tt
+  distinct_no_repeats (x ∷ xs) =
+      (λ m. (without_of x (distinct same xs) m).1 refl, without_no_repeats x (distinct same xs) (distinct_no_repeats xs))
 
-  pub distinct-same : (xs : List A) → NoRepeats xs → distinct same xs ≡ xs
+  pub distinct_same : (xs : List A) → NoRepeats xs → distinct same xs ≡ xs
   unfolding distinct
-  distinct-same [] r = refl
-  distinct-same (x ∷ xs) r =
-      ap {B = List A} (λ t. x ∷ t) (ap (λ t. without same x t) (distinct-same xs r.1) ∙ without-absent x xs r.0)
+  distinct_same [] r = refl
+  distinct_same (x ∷ xs) r =
+      ap {B = List A} (λ t. x ∷ t) (ap (λ t. without same x t) (distinct_same xs r.1) ∙ without_absent x xs r.0)
 
   -- ---- A list that goes on
 
@@ -136,31 +136,31 @@ module _ {A : Type 0} (same : Discrete A) where
   distinct_append [] ys = refl
   distinct_append (x ∷ xs) ys =
       ap {B = List A} (λ t. x ∷ t)
-      (ap (λ t. without same x t) (distinct_append xs ys) ∙ without-append x (distinct same xs) (beyond same xs (distinct same ys)))
+      (ap (λ t. without same x t) (distinct_append xs ys) ∙ without_append x (distinct same xs) (beyond same xs (distinct same ys)))
 
-  pub beyond-of : (xs ys : List A) {z : A} → Memᴰ z (beyond same xs ys) → Memᴰ z ys × (Memᴰ z xs → ⊥)
+  pub beyond_of : (xs ys : List A) {z : A} → Memᴰ z (beyond same xs ys) → Memᴰ z ys × (Memᴰ z xs → ⊥)
   unfolding beyond
-  beyond-of [] ys m = (m, Memᴰ.not-nil)
-  beyond-of (x ∷ xs) ys m =
-      let w = without-of x (beyond same xs ys) m in
-      let b = beyond-of xs ys w.0 in
+  beyond_of [] ys m = (m, Memᴰ.not-nil)
+  beyond_of (x ∷ xs) ys m =
+      let w = without_of x (beyond same xs ys) m in
+      let b = beyond_of xs ys w.0 in
       (b.0, λ h. ⊎_elim w.1 b.1 (Memᴰ.cases_cons h))
 
-  pub beyond-new : (xs : List A) (y : A) → (Memᴰ y xs → ⊥) → beyond same xs (y ∷ []) ≡ y ∷ []
+  pub beyond_new : (xs : List A) (y : A) → (Memᴰ y xs → ⊥) → beyond same xs (y ∷ []) ≡ y ∷ []
   unfolding beyond
-  beyond-new [] y n = refl
-  beyond-new (x ∷ xs) y n =
-      ap (λ t. without same x t) (beyond-new xs y (λ m. n (Memᴰ.tail m)))
-      ∙ without-absent x (y ∷ []) (λ m. ⊎_elim (λ e. n (Memᴰ.head (sym e))) Memᴰ.not-nil (Memᴰ.cases_cons m))
+  beyond_new [] y n = refl
+  beyond_new (x ∷ xs) y n =
+      ap (λ t. without same x t) (beyond_new xs y (λ m. n (Memᴰ.tail m)))
+      ∙ without_absent x (y ∷ []) (λ m. ⊎_elim (λ e. n (Memᴰ.head (sym e))) Memᴰ.not-nil (Memᴰ.cases_cons m))
 
-  pub beyond-nil : (xs : List A) → beyond same xs [] ≡ []
+  pub beyond_nil : (xs : List A) → beyond same xs [] ≡ []
   unfolding beyond without
-  beyond-nil [] = refl
-  beyond-nil (x ∷ xs) = ap (λ t. without same x t) (beyond-nil xs)
+  beyond_nil [] = refl
+  beyond_nil (x ∷ xs) = ap (λ t. without same x t) (beyond_nil xs)
 
-  beyond-known : (xs : List A) (y : A) → Memᴰ y xs → beyond same xs (y ∷ []) ≡ []
+  beyond_known : (xs : List A) (y : A) → Memᴰ y xs → beyond same xs (y ∷ []) ≡ []
   unfolding beyond
-  beyond-known xs y m = empty (beyond same xs (y ∷ [])) (λ z h. (beyond-of xs (y ∷ []) h).1 (Memᴰ.cast (only z (beyond-of xs (y ∷ []) h).0) m))
+  beyond_known xs y m = empty (beyond same xs (y ∷ [])) (λ z h. (beyond_of xs (y ∷ []) h).1 (Memᴰ.cast (only z (beyond_of xs (y ∷ []) h).0) m))
     where
       only : (z : A) → Memᴰ z (y ∷ []) → z ≡ y
       only z h = ⊎_elim (λ e. e) (λ t. absurd (Memᴰ.not-nil t)) (Memᴰ.cases_cons h)
@@ -170,14 +170,14 @@ module _ {A : Type 0} (same : Discrete A) where
       empty (z ∷ l) n = absurd (n z (Memᴰ.head refl))
 
   -- One more: a member that stands there already changes nothing, a new one comes last.
-  pub distinct-known : (xs : List A) (y : A) → Memᴰ y xs → distinct same (xs ++ (y ∷ [])) ≡ distinct same xs
+  pub distinct_known : (xs : List A) (y : A) → Memᴰ y xs → distinct same (xs ++ (y ∷ [])) ≡ distinct same xs
   unfolding distinct without
-  distinct-known xs y m =
-      distinct_append xs (y ∷ []) ∙ ap (λ t. distinct same xs ++ t) (beyond-known xs y m) ∙ append-nil (distinct same xs)
+  distinct_known xs y m =
+      distinct_append xs (y ∷ []) ∙ ap (λ t. distinct same xs ++ t) (beyond_known xs y m) ∙ append-nil (distinct same xs)
 
-  pub distinct-new : (xs : List A) (y : A) → (Memᴰ y xs → ⊥) → distinct same (xs ++ (y ∷ [])) ≡ distinct same xs ++ (y ∷ [])
+  pub distinct_new : (xs : List A) (y : A) → (Memᴰ y xs → ⊥) → distinct same (xs ++ (y ∷ [])) ≡ distinct same xs ++ (y ∷ [])
   unfolding distinct without
-  distinct-new xs y n = distinct_append xs (y ∷ []) ∙ ap (λ t. distinct same xs ++ t) (beyond-new xs y n)
+  distinct_new xs y n = distinct_append xs (y ∷ []) ∙ ap (λ t. distinct same xs ++ t) (beyond_new xs y n)
 
   -- ---- Counting
 
@@ -205,17 +205,17 @@ module _ {A : Type 0} (same : Discrete A) where
   no_longer [] ys r w = zero-le
   no_longer (x ∷ xs) ys r w =
       le_trans
-      (suc-le-suc (no_longer xs (without same x ys) r.1 (λ z m. to-without x ys (w z (Memᴰ.tail m)) (λ e. r.0 (Memᴰ.cast (sym e) m)))))
+      (suc-le-suc (no_longer xs (without same x ys) r.1 (λ z m. to_without x ys (w z (Memᴰ.tail m)) (λ e. r.0 (Memᴰ.cast (sym e) m)))))
       (length_without x ys (w x (Memᴰ.head refl)))
 
   -- ---- Places
 
-  pub place-below : (x : A) (ys : List A) → Memᴰ x ys → place same x ys < length ys
+  pub place_below : (x : A) (ys : List A) → Memᴰ x ys → place same x ys < length ys
   unfolding place
-  place-below x [] m = absurd (Memᴰ.not-nil m)
-  place-below x (y ∷ ys) m = go (same x y) (λ t. place-below x ys t) (Memᴰ.cases_cons m)
+  place_below x [] m = absurd (Memᴰ.not-nil m)
+  place_below x (y ∷ ys) m = go (same x y) (λ t. place_below x ys t) (Memᴰ.cases_cons m)
     where
-      go : (d : Dec (x ≡ y)) → (Memᴰ x ys → place same x ys < length ys) → (x ≡ y) ⊎ Memᴰ x ys → here-or d (place same x ys) < suc (length ys)
+      go : (d : Dec (x ≡ y)) → (Memᴰ x ys → place same x ys < length ys) → (x ≡ y) ⊎ Memᴰ x ys → here_or d (place same x ys) < suc (length ys)
       go (yes p) ih h = suc-le-suc zero-le
       go (no n) ih (inl e) = absurd (n e)
       go (no n) ih (inr t) = suc-le-suc (ih t)
@@ -226,7 +226,7 @@ module _ {A : Type 0} (same : Discrete A) where
   at_place x (y ∷ ys) d m = go (same x y) (λ t. at_place x ys d t) (Memᴰ.cases_cons m)
     where
       go : (k : Dec (x ≡ y)) → (Memᴰ x ys → get_or ys (place same x ys) d ≡ x) → (x ≡ y) ⊎ Memᴰ x ys
-          → get_or (y ∷ ys) (here-or k (place same x ys)) d ≡ x
+          → get_or (y ∷ ys) (here_or k (place same x ys)) d ≡ x
       go (yes p) ih h = sym p
       go (no n) ih (inl e) = absurd (n e)
       go (no n) ih (inr t) = ih t
@@ -236,11 +236,11 @@ module _ {A : Type 0} (same : Discrete A) where
   place_of [] i d r h = absurd (not-suc-le-zero h)
   place_of (y ∷ ys) zero d r h = go (same y y)
     where
-      go : (k : Dec (y ≡ y)) → here-or k (place same y ys) ≡ zero
+      go : (k : Dec (y ≡ y)) → here_or k (place same y ys) ≡ zero
       go (yes p) = refl
       go (no n) = absurd (n refl)
   place_of (y ∷ ys) (suc i) d r h = go (same (get_or ys i d) y) (place_of ys i d r.1 (le_of_suc-le-suc h))
     where
-      go : (k : Dec (get_or ys i d ≡ y)) → place same (get_or ys i d) ys ≡ i → here-or k (place same (get_or ys i d) ys) ≡ suc i
-      go (yes p) ih = absurd (r.0 (Memᴰ.cast (sym p) (getD-member ys i d (le_of_suc-le-suc h))))
+      go : (k : Dec (get_or ys i d ≡ y)) → place same (get_or ys i d) ys ≡ i → here_or k (place same (get_or ys i d) ys) ≡ suc i
+      go (yes p) ih = absurd (r.0 (Memᴰ.cast (sym p) (getD_member ys i d (le_of_suc-le-suc h))))
       go (no n) ih = ap suc ih

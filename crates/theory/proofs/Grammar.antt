@@ -7,9 +7,9 @@ use mathlib.Core.Option.{some}
 use Rattle.theory.specs.Expression.{Expression}
 use Rattle.theory.specs.Grammar.{Text, written, Writable, Reading, read, Reads, made}
 use Rattle.theory.specs.Scan.{before, scan}
-use Run.{run, whole-stand, run-whole, finish-whole}
-use Passing.{passed-nil}
-use Sound.{scan-from-reads}
+use Run.{run, whole_stand, run_whole, finish_whole}
+use Passing.{passed_nil}
+use Sound.{scan_from_reads}
 pub mod Bytes
 pub mod Run
 pub mod Spell
@@ -18,18 +18,18 @@ pub mod Passing
 pub mod Steps
 pub mod Sound
 pub mod Complete
-pub use Complete.{reads-scan}
+pub use Complete.{reads_scan}
 
 -- The executable reading is a reading, refusals and places included.
-pub scan-reads : (room : ℕ) (t : Text) → Reads room t (scan room t)
+pub scan_reads : (room : ℕ) (t : Text) → Reads room t (scan room t)
 unfolding scan run made
-scan-reads room t = scan-from-reads room t [] (before []) refl (passed-nil room)
+scan_reads room t = scan_from_reads room t [] (before []) refl (passed_nil room)
 
-pub reads-once : {room : ℕ} {t : Text} {r r' : Reading} → Reads room t r → Reads room t r' → r ≡ r'
-reads-once h h' = sym (reads-scan h) ∙ reads-scan h'
+pub reads_once : {room : ℕ} {t : Text} {r r' : Reading} → Reads room t r → Reads room t r' → r ≡ r'
+reads_once h h' = sym (reads_scan h) ∙ reads_scan h'
 
 pub unambiguous : (e e' : Expression) → Writable e → Writable e' → written e ≡ written e' → e ≡ e'
 unambiguous e e' w w' q =
-    let stands : some (whole-stand e) ≡ some (whole-stand e') = cc (run-whole e w, run-whole e' w') in
-    let readings : read e ≡ read e' = cc (finish-whole 0 e, finish-whole 0 e') in
+    let stands : some (whole_stand e) ≡ some (whole_stand e') = cc (run_whole e w, run_whole e' w') in
+    let readings : read e ≡ read e' = cc (finish_whole 0 e, finish_whole 0 e') in
     cc

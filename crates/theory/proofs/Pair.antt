@@ -6,7 +6,7 @@ use mathlib.Core.Logic.{◌⊎◌, inl, inr, ⊎_elim}
 use mathlib.Core.List.Memᴰ
 use mathlib.Core.List.{◌++◌, Memᴰ}
 use Rattle.theory.specs.Expression.{Expression, pair, Sign, ∅, ε, letter, binary, star, parts, entries, letters}
-use Rattle.theory.specs.Derivative.{empty-word}
+use Rattle.theory.specs.Derivative.{empty_word}
 use Rattle.theory.specs.Distinct.{Within}
 
 -- ---- What tells it
@@ -23,31 +23,31 @@ Signless (letter a) = Unit {0}
 Signless (binary s x y) = ⊥
 Signless (star x) = Unit {0}
 
-pub pair-signed : (s : Sign) (x y : Expression) → Signless (pair s x y) → ⊥
+pub pair_signed : (s : Sign) (x y : Expression) → Signless (pair s x y) → ⊥
 unfolding pair
-pair-signed s x y h = h
+pair_signed s x y h = h
 
 -- ---- What it is made of
 
-pub pair-empty-word : (s : Sign) (x y : Expression) → empty-word (pair s x y) ≡ empty-word (binary s x y)
+pub pair_empty_word : (s : Sign) (x y : Expression) → empty_word (pair s x y) ≡ empty_word (binary s x y)
 unfolding pair
-pair-empty-word s x y = refl
+pair_empty_word s x y = refl
 
-pub pair-entries : (s : Sign) (x y : Expression) → entries (pair s x y) ≡ suc (entries x + entries y)
+pub pair_entries : (s : Sign) (x y : Expression) → entries (pair s x y) ≡ suc (entries x + entries y)
 unfolding pair entries
-pair-entries s x y = refl
+pair_entries s x y = refl
 
-pub pair-letters : (s : Sign) (x y : Expression) → Within (letters (pair s x y)) (letters x ++ letters y)
+pub pair_letters : (s : Sign) (x y : Expression) → Within (letters (pair s x y)) (letters x ++ letters y)
 unfolding pair letters
-pair-letters s x y z h = h
+pair_letters s x y z h = h
 
 pub pair_left : (s : Sign) (x y : Expression) → Within (parts x) (parts (pair s x y))
 unfolding pair parts
 pair_left s x y z h = Memᴰ.append_left _ (Memᴰ.append_left (parts y) h)
 
-pub pair-right : (s : Sign) (x y : Expression) → Within (parts y) (parts (pair s x y))
+pub pair_right : (s : Sign) (x y : Expression) → Within (parts y) (parts (pair s x y))
 unfolding pair parts
-pair-right s x y z h = Memᴰ.append_left _ (Memᴰ.append_right (parts x) h)
+pair_right s x y z h = Memᴰ.append_left _ (Memᴰ.append_right (parts x) h)
 
 pub pair_parts : (s : Sign) (x y : Expression) {z : Expression} → Memᴰ z (parts (pair s x y))
     → (Memᴰ z (parts x) ⊎ Memᴰ z (parts y)) ⊎ (z ≡ pair s x y)

@@ -15,9 +15,9 @@ use Rattle.theory.specs.Expression.{Expression, same, letters}
 use Rattle.theory.specs.Distinct.{distinct, beyond, without, NoRepeats, Within}
 use Rattle.theory.specs.Derivative.{derivative}
 use Rattle.theory.specs.Automaton.{alphabet, successors, met, rounds, states, Derived, itself, onward}
-use Rattle.theory.proofs.Distinct.{distinct_of, to_distinct, distinct-no-repeats, distinct_append, no_longer}
-use Rattle.theory.proofs.Support.{support, stays, support-stays, support-bound}
-use Rattle.theory.proofs.Members.{to-flatMap, flatMap-of, flatMap-append}
+use Rattle.theory.proofs.Distinct.{distinct_of, to_distinct, distinct_no_repeats, distinct_append, no_longer}
+use Rattle.theory.proofs.Support.{support, stays, support_stays, support_bound}
+use Rattle.theory.proofs.Members.{to_flatMap, flatMap_of, flatMap_append}
 
 -- t is the beginning of s.
 pub record Begins (t s : List Expression) : Type 0 where
@@ -26,144 +26,144 @@ pub record Begins (t s : List Expression) : Type 0 where
 
 -- ---- One round
 
-pub met-no-repeats : (e : Expression) (s : List Expression) → NoRepeats (met e s)
+pub met_no_repeats : (e : Expression) (s : List Expression) → NoRepeats (met e s)
 unfolding met
-met-no-repeats e s = distinct-no-repeats same (e ∷ flat_map successors s)
+met_no_repeats e s = distinct_no_repeats same (e ∷ flat_map successors s)
 
 pub met_of : (e : Expression) (s : List Expression) → Within (met e s) (e ∷ flat_map successors s)
 unfolding met
 met_of e s = distinct_of same (e ∷ flat_map successors s)
 
-pub to-met : (e : Expression) (s : List Expression) → Within (e ∷ flat_map successors s) (met e s)
+pub to_met : (e : Expression) (s : List Expression) → Within (e ∷ flat_map successors s) (met e s)
 unfolding met
-to-met e s = to_distinct same (e ∷ flat_map successors s)
+to_met e s = to_distinct same (e ∷ flat_map successors s)
 
-pub met-first : (e : Expression) (s : List Expression) → Begins (e ∷ []) (met e s)
+pub met_first : (e : Expression) (s : List Expression) → Begins (e ∷ []) (met e s)
 unfolding met
-met-first e s = record { rest = without same e (distinct same (flat_map successors s)); goes_on = refl }
+met_first e s = record { rest = without same e (distinct same (flat_map successors s)); goes_on = refl }
 
 -- What begins the list begins what is met from it: a later round only adds at the end.
-pub met-begins : (e : Expression) {t s : List Expression} → Begins t s → Begins (met e t) (met e s)
+pub met_begins : (e : Expression) {t s : List Expression} → Begins t s → Begins (met e t) (met e s)
 unfolding met
-met-begins e {t} {s} b = record {
+met_begins e {t} {s} b = record {
   rest = beyond same (e ∷ flat_map successors t) (distinct same (flat_map successors b.rest));
-  goes_on = ap (met e) b.goes_on ∙ ap (λ l. distinct same (e ∷ l)) (flatMap-append successors t b.rest)
+  goes_on = ap (met e) b.goes_on ∙ ap (λ l. distinct same (e ∷ l)) (flatMap_append successors t b.rest)
       ∙ distinct_append same (e ∷ flat_map successors t) (flat_map successors b.rest);
 }
 
 -- ---- The members of a round are the partial derivatives
 
-pub met-derived : (e : Expression) (s : List Expression) → ((m : Expression) → Memᴰ m s → Derived e m)
+pub met_derived : (e : Expression) (s : List Expression) → ((m : Expression) → Memᴰ m s → Derived e m)
     → (m : Expression) → Memᴰ m (met e s) → Derived e m
-met-derived e s d m h =
-    ⊎_elim itself (λ t. let r = flatMap-of successors s t in Derived.onward (d r.0 r.1) r.2) (Memᴰ.cases_cons (met_of e s m h))
+met_derived e s d m h =
+    ⊎_elim itself (λ t. let r = flatMap_of successors s t in Derived.onward (d r.0 r.1) r.2) (Memᴰ.cases_cons (met_of e s m h))
 
 known : {e : Expression} {s : List Expression} → met e s ≡ s → {m : Expression} → Memᴰ m (e ∷ flat_map successors s) → Memᴰ m s
-known {e} {s} c {m} h = subst (λ t. Memᴰ m t) c (to-met e s m h)
+known {e} {s} c {m} h = subst (λ t. Memᴰ m t) c (to_met e s m h)
 
 -- Where a round brings nothing new, all partial derivatives are there.
-pub derived-met : {e : Expression} {s : List Expression} → met e s ≡ s → {m : Expression} → Derived e m → Memᴰ m s
-derived-met c (itself h) = known c (Memᴰ.head h)
-derived-met c (Derived.onward d h) = known c (Memᴰ.tail (to-flatMap successors (derived-met c d) h))
+pub derived_met : {e : Expression} {s : List Expression} → met e s ≡ s → {m : Expression} → Derived e m → Memᴰ m s
+derived_met c (itself h) = known c (Memᴰ.head h)
+derived_met c (Derived.onward d h) = known c (Memᴰ.tail (to_flatMap successors (derived_met c d) h))
 
-pub successors-of : (x : Expression) {m : Expression} → Memᴰ m (successors x) → (a : ℕ) × Memᴰ m (derivative a x)
+pub successors_of : (x : Expression) {m : Expression} → Memᴰ m (successors x) → (a : ℕ) × Memᴰ m (derivative a x)
 unfolding successors
-successors-of x h = let r = flatMap-of (λ a. derivative a x) alphabet h in (r.0, r.2)
+successors_of x h = let r = flatMap_of (λ a. derivative a x) alphabet h in (r.0, r.2)
 
-pub derived-support : {e m : Expression} → Derived e m → Memᴰ m (e ∷ support e)
-derived-support (itself h) = Memᴰ.head h
-derived-support {e} {m} (Derived.onward {x = x} d h) =
-    let r = successors-of x h in Memᴰ.tail (stays (support-stays e) x (derived-support d) r.0 m r.1)
+pub derived_support : {e m : Expression} → Derived e m → Memᴰ m (e ∷ support e)
+derived_support (itself h) = Memᴰ.head h
+derived_support {e} {m} (Derived.onward {x = x} d h) =
+    let r = successors_of x h in Memᴰ.tail (stays (support_stays e) x (derived_support d) r.0 m r.1)
 
 -- A list of partial derivatives without repeats is no longer than 004's bound.
-pub derived-bound : (e : Expression) (s : List Expression) → NoRepeats s → ((m : Expression) → Memᴰ m s → Derived e m) → length s ≤ 2 ^ length (letters e)
-derived-bound e s r d = le_trans (no_longer same s (e ∷ support e) r (λ m h. derived-support (d m h))) (support-bound e)
+pub derived_bound : (e : Expression) (s : List Expression) → NoRepeats s → ((m : Expression) → Memᴰ m s → Derived e m) → length s ≤ 2 ^ length (letters e)
+derived_bound e s r d = le_trans (no_longer same s (e ∷ support e) r (λ m h. derived_support (d m h))) (support_bound e)
 
 -- ---- The rounds
 
 -- What the rounds keep of a list of expressions that grows to the states of e.
 record Growing (e : Expression) (s : List Expression) : Type 0 where
   begins : Begins s (met e s)
-  no-repeats : NoRepeats s
+  no_repeats : NoRepeats s
   derived : (m : Expression) → Memᴰ m s → Derived e m
 
-growing-first : (e : Expression) → Growing e (e ∷ [])
-growing-first e = record
-    { begins = met-first e (e ∷ []); no-repeats = (Memᴰ.not-nil, tt); derived = λ m h. itself (Memᴰ.eq_of_singleton h) }
+growing_first : (e : Expression) → Growing e (e ∷ [])
+growing_first e = record
+    { begins = met_first e (e ∷ []); no_repeats = (Memᴰ.not-nil, tt); derived = λ m h. itself (Memᴰ.eq_of_singleton h) }
 
-growing-met : (e : Expression) (s : List Expression) → Growing e s → Growing e (met e s)
-growing-met e s g = record { begins = met-begins e g.begins; no-repeats = met-no-repeats e s; derived = met-derived e s g.derived }
+growing_met : (e : Expression) (s : List Expression) → Growing e s → Growing e (met e s)
+growing_met e s g = record { begins = met_begins e g.begins; no_repeats = met_no_repeats e s; derived = met_derived e s g.derived }
 
-rounds-keep : (P : List Expression → Type 0) (e : Expression) → ((s : List Expression) → P s → P (met e s)) → (k : ℕ) (s : List Expression)
+rounds_keep : (P : List Expression → Type 0) (e : Expression) → ((s : List Expression) → P s → P (met e s)) → (k : ℕ) (s : List Expression)
     → P s → P (rounds k e s)
 unfolding rounds
-rounds-keep P e h zero s p = p
-rounds-keep P e h (suc k) s p = go (eqb (length (met e s)) (length s)) (rounds-keep P e h k (met e s) (h s p))
+rounds_keep P e h zero s p = p
+rounds_keep P e h (suc k) s p = go (eqb (length (met e s)) (length s)) (rounds_keep P e h k (met e s) (h s p))
   where
     go : (t : Bool) → P (rounds k e (met e s)) → P (elim t [ true ↦ s | false ↦ rounds k e (met e s) ])
     go true q = p
     go false q = q
 
-begins-same : {t s : List Expression} → Begins t s → length s ≡ length t → s ≡ t
-begins-same {t} {s} b h = go b.rest b.goes_on
+begins_same : {t s : List Expression} → Begins t s → length s ≡ length t → s ≡ t
+begins_same {t} {s} b h = go b.rest b.goes_on
   where
     go : (r : List Expression) → s ≡ t ++ r → s ≡ t
     go [] e = e ∙ append-nil t
     go (x ∷ r) e = absurd (let l = simp length-append at (ap length e) in omega arith)
 
-begins-longer : {t s : List Expression} → Begins t s → length t ≤ length s
-begins-longer {t} {s} b = let l = simp length-append at (ap length b.goes_on) in omega arith
+begins_longer : {t s : List Expression} → Begins t s → length t ≤ length s
+begins_longer {t} {s} b = let l = simp length-append at (ap length b.goes_on) in omega arith
 
-rounds-complete : (k : ℕ) (e : Expression) (s : List Expression) → Growing e s → 2 ^ length (letters e) < length s + k → met e (rounds k e s) ≡ rounds k e s
+rounds_complete : (k : ℕ) (e : Expression) (s : List Expression) → Growing e s → 2 ^ length (letters e) < length s + k → met e (rounds k e s) ≡ rounds k e s
 unfolding rounds
-rounds-complete zero e s g h = let b = derived-bound e s g.no-repeats g.derived in absurd (omega arith)
-rounds-complete (suc k) e s g h = go (eqb (length (met e s)) (length s)) refl (rounds-complete k e (met e s) (growing-met e s g))
+rounds_complete zero e s g h = let b = derived_bound e s g.no_repeats g.derived in absurd (omega arith)
+rounds_complete (suc k) e s g h = go (eqb (length (met e s)) (length s)) refl (rounds_complete k e (met e s) (growing_met e s g))
   where
     next : List Expression
     next = rounds k e (met e s)
 
     go : (t : Bool) → eqb (length (met e s)) (length s) ≡ t → (2 ^ length (letters e) < length (met e s) + k → met e next ≡ next)
         → met e (elim t [ true ↦ s | false ↦ next ]) ≡ elim t [ true ↦ s | false ↦ next ]
-    go true p ih = begins-same g.begins (eqb-true _ _ p)
-    go false p ih = ih (let l = begins-longer g.begins in let n = eqb-false (length (met e s)) (length s) p in omega arith)
+    go true p ih = begins_same g.begins (eqb-true _ _ p)
+    go false p ih = ih (let l = begins_longer g.begins in let n = eqb-false (length (met e s)) (length s) p in omega arith)
 
-states-growing : (e : Expression) → Growing e (states e)
+states_growing : (e : Expression) → Growing e (states e)
 unfolding states
-states-growing e = rounds-keep (Growing e) e (growing-met e) (2 ^ length (letters e)) (e ∷ []) (growing-first e)
+states_growing e = rounds_keep (Growing e) e (growing_met e) (2 ^ length (letters e)) (e ∷ []) (growing_first e)
 
 -- ---- The states
 
-pub states-complete : (e : Expression) → met e (states e) ≡ states e
+pub states_complete : (e : Expression) → met e (states e) ≡ states e
 unfolding states
-states-complete e = rounds-complete (2 ^ length (letters e)) e (e ∷ []) (growing-first e) (omega arith)
+states_complete e = rounds_complete (2 ^ length (letters e)) e (e ∷ []) (growing_first e) (omega arith)
 
-pub states-no-repeats : (e : Expression) → NoRepeats (states e)
-states-no-repeats e = (states-growing e).no-repeats
+pub states_no_repeats : (e : Expression) → NoRepeats (states e)
+states_no_repeats e = (states_growing e).no_repeats
 
-pub states-first : (e : Expression) → Begins (e ∷ []) (states e)
-states-first e = subst (Begins (e ∷ [])) (states-complete e) (met-first e (states e))
+pub states_first : (e : Expression) → Begins (e ∷ []) (states e)
+states_first e = subst (Begins (e ∷ [])) (states_complete e) (met_first e (states e))
 
-pub states-some : (e : Expression) → 0 < length (states e)
-states-some e = rw (states-first e).goes_on (suc-le-suc zero-le)
+pub states_some : (e : Expression) → 0 < length (states e)
+states_some e = rw (states_first e).goes_on (suc-le-suc zero-le)
 
-pub states-zero : (e d : Expression) → get_or (states e) 0 d ≡ e
-states-zero e d = ap (λ t. get_or t 0 d) (states-first e).goes_on
+pub states_zero : (e d : Expression) → get_or (states e) 0 d ≡ e
+states_zero e d = ap (λ t. get_or t 0 d) (states_first e).goes_on
 
-pub states-derived : (e m : Expression) → Memᴰ m (states e) → Derived e m
-states-derived e = (states-growing e).derived
+pub states_derived : (e m : Expression) → Memᴰ m (states e) → Derived e m
+states_derived e = (states_growing e).derived
 
-pub derived-states : {e m : Expression} → Derived e m → Memᴰ m (states e)
-derived-states {e} = derived-met (states-complete e)
+pub derived_states : {e m : Expression} → Derived e m → Memᴰ m (states e)
+derived_states {e} = derived_met (states_complete e)
 
 -- The equation alone does not pin the list: that of ε and a* solves it for ε.
-pub states-only : (e : Expression) (s : List Expression) → met e s ≡ s → ((m : Expression) → Memᴰ m s → Derived e m) → s ≡ states e
+pub states_only : (e : Expression) (s : List Expression) → met e s ≡ s → ((m : Expression) → Memᴰ m s → Derived e m) → s ≡ states e
 unfolding states
-states-only e s c d = begins-same begins (le_antisymm shorter (begins-longer begins))
+states_only e s c d = begins_same begins (le_antisymm shorter (begins_longer begins))
   where
     begins : Begins (states e) s
     begins =
-        rounds-keep (λ t. Begins t s) e (λ t b. subst (Begins (met e t)) c (met-begins e b)) (2 ^ length (letters e)) (e ∷ [])
-        (subst (Begins (e ∷ [])) c (met-first e s))
+        rounds_keep (λ t. Begins t s) e (λ t b. subst (Begins (met e t)) c (met_begins e b)) (2 ^ length (letters e)) (e ∷ [])
+        (subst (Begins (e ∷ [])) c (met_first e s))
 
     shorter : length s ≤ length (states e)
-    shorter = no_longer same s (states e) (subst NoRepeats c (met-no-repeats e s)) (λ m h. derived-states (d m h))
+    shorter = no_longer same s (states e) (subst NoRepeats c (met_no_repeats e s)) (λ m h. derived_states (d m h))

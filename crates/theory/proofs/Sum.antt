@@ -8,7 +8,7 @@ use mathlib.Core.Bool.{Bool, true, false, cond}
 use mathlib.Core.List.{List, [], ◌∷◌, ◌++◌, Memᴰ}
 use lib.Dec.{eqb}
 use borrow.Author.Tests.{eq-eqb, ne_eqb}
-use Rattle.theory.specs.Below.{count-below}
+use Rattle.theory.specs.Below.{count_below}
 use Rattle.theory.specs.Table.{times}
 
 unfoldable pub sum_below : ℕ → (ℕ → ℕ) → ℕ
@@ -21,33 +21,33 @@ sum_over g (c ∷ cs) = g c + sum_over g cs
 
 -- ---- Below n
 
-pub sum-cong : (n : ℕ) {g h : ℕ → ℕ} → ((k : ℕ) → k < n → g k ≡ h k) → sum_below n g ≡ sum_below n h
+pub sum_cong : (n : ℕ) {g h : ℕ → ℕ} → ((k : ℕ) → k < n → g k ≡ h k) → sum_below n g ≡ sum_below n h
 unfolding sum_below
-sum-cong zero e = refl
-sum-cong (suc n) e = ap₂ ◌+◌ (sum-cong n (λ k l. e k (omega arith))) (e n (le_refl (suc n)))
+sum_cong zero e = refl
+sum_cong (suc n) e = ap₂ ◌+◌ (sum_cong n (λ k l. e k (omega arith))) (e n (le_refl (suc n)))
 
-pub sum-add : (n : ℕ) (g h : ℕ → ℕ) → sum_below n (λ k. g k + h k) ≡ sum_below n g + sum_below n h
+pub sum_add : (n : ℕ) (g h : ℕ → ℕ) → sum_below n (λ k. g k + h k) ≡ sum_below n g + sum_below n h
 unfolding sum_below
-sum-add zero g h = omega arith
-sum-add (suc n) g h = omega (arith, sum-add n g h)
+sum_add zero g h = omega arith
+sum_add (suc n) g h = omega (arith, sum_add n g h)
 
-pub sum-last : (n : ℕ) (g : ℕ → ℕ) → 0 < n → sum_below n g ≡ sum_below (pred n) g + g (pred n)
+pub sum_last : (n : ℕ) (g : ℕ → ℕ) → 0 < n → sum_below n g ≡ sum_below (pred n) g + g (pred n)
 unfolding sum_below
-sum-last zero g l = absurd (not-suc-le-zero l)
-sum-last (suc n) g l = refl
+sum_last zero g l = absurd (not-suc-le-zero l)
+sum_last (suc n) g l = refl
 
 pub sum_ones : (n : ℕ) → sum_below n (λ _. 1) ≡ n
 unfolding sum_below
 sum_ones zero = refl
 sum_ones (suc n) = omega (arith, sum_ones n)
 
-pub sum-count : (n : ℕ) (p : ℕ → Bool) → sum_below n (λ k. cond (p k) 1 0) ≡ count-below n p
-unfolding sum_below count-below
-sum-count zero p = refl
-sum-count (suc n) p = go (p n) (sum-count n p)
+pub sum_count : (n : ℕ) (p : ℕ → Bool) → sum_below n (λ k. cond (p k) 1 0) ≡ count_below n p
+unfolding sum_below count_below
+sum_count zero p = refl
+sum_count (suc n) p = go (p n) (sum_count n p)
   where
-    go : (b : Bool) → sum_below n (λ k. cond (p k) 1 0) ≡ count-below n p
-        → sum_below n (λ k. cond (p k) 1 0) + cond b 1 0 ≡ cond b (suc (count-below n p)) (count-below n p)
+    go : (b : Bool) → sum_below n (λ k. cond (p k) 1 0) ≡ count_below n p
+        → sum_below n (λ k. cond (p k) 1 0) + cond b 1 0 ≡ cond b (suc (count_below n p)) (count_below n p)
     go true e = omega arith
     go false e = omega arith
 
@@ -57,10 +57,10 @@ sum_zeros zero g e = refl
 sum_zeros (suc n) g e = omega (arith, sum_zeros n g (λ k l. e k (omega arith)), e n (le_refl (suc n)))
 
 -- Of one number alone.
-sum-only : (n c : ℕ) (g : ℕ → ℕ) → c < n → sum_below n (λ k. cond (eqb c k) (g k) 0) ≡ g c
+sum_only : (n c : ℕ) (g : ℕ → ℕ) → c < n → sum_below n (λ k. cond (eqb c k) (g k) 0) ≡ g c
 unfolding sum_below
-sum-only zero c g l = absurd (not-suc-le-zero l)
-sum-only (suc n) c g l = ⊎_elim here (λ m. there m (sum-only n c g m)) (eq-or-lt_of_le (le_of_suc-le-suc l))
+sum_only zero c g l = absurd (not-suc-le-zero l)
+sum_only (suc n) c g l = ⊎_elim here (λ m. there m (sum_only n c g m)) (eq-or-lt_of_le (le_of_suc-le-suc l))
   where
     here : c ≡ n → sum_below (suc n) (λ k. cond (eqb c k) (g k) 0) ≡ g c
     here e =
@@ -74,29 +74,29 @@ sum-only (suc n) c g l = ⊎_elim here (λ m. there m (sum-only n c g m)) (eq-or
 
 -- ---- Over a list
 
-pub over-append : (g : ℕ → ℕ) (cs ds : List ℕ) → sum_over g (cs ++ ds) ≡ sum_over g cs + sum_over g ds
+pub over_append : (g : ℕ → ℕ) (cs ds : List ℕ) → sum_over g (cs ++ ds) ≡ sum_over g cs + sum_over g ds
 unfolding sum_over
-over-append g [] ds = sym (zero-add (sum_over g ds))
-over-append g (c ∷ cs) ds = omega (arith, over-append g cs ds)
+over_append g [] ds = sym (zero-add (sum_over g ds))
+over_append g (c ∷ cs) ds = omega (arith, over_append g cs ds)
 
-pub over-cong : {g h : ℕ → ℕ} (cs : List ℕ) → ((c : ℕ) → Memᴰ c cs → g c ≡ h c) → sum_over g cs ≡ sum_over h cs
+pub over_cong : {g h : ℕ → ℕ} (cs : List ℕ) → ((c : ℕ) → Memᴰ c cs → g c ≡ h c) → sum_over g cs ≡ sum_over h cs
 unfolding sum_over
-over-cong [] e = refl
-over-cong (c ∷ cs) e = ap₂ ◌+◌ (e c (Memᴰ.head refl)) (over-cong cs (λ d m. e d (Memᴰ.tail m)))
+over_cong [] e = refl
+over_cong (c ∷ cs) e = ap₂ ◌+◌ (e c (Memᴰ.head refl)) (over_cong cs (λ d m. e d (Memᴰ.tail m)))
 
 -- Each number counts as often as the list names it.
-over-times : (n : ℕ) (g : ℕ → ℕ) (cs : List ℕ) → ((c : ℕ) → Memᴰ c cs → c < n) → sum_over g cs ≡ sum_below n (λ k. times k cs * g k)
+over_times : (n : ℕ) (g : ℕ → ℕ) (cs : List ℕ) → ((c : ℕ) → Memᴰ c cs → c < n) → sum_over g cs ≡ sum_below n (λ k. times k cs * g k)
 unfolding sum_over times
-over-times n g [] within = sym (sum_zeros n (λ k. times k [] * g k) (λ k l. zero-mul (g k)))
-over-times n g (c ∷ cs) within =
-    ap₂ ◌+◌ (sym (sum-only n c g (within c (Memᴰ.head refl)))) (over-times n g cs (λ d m. within d (Memᴰ.tail m)))
-    ∙ sym (sum-add n (λ k. cond (eqb c k) (g k) 0) (λ k. times k cs * g k))
-    ∙ sum-cong n (λ k l. step (eqb c k) k)
+over_times n g [] within = sym (sum_zeros n (λ k. times k [] * g k) (λ k l. zero-mul (g k)))
+over_times n g (c ∷ cs) within =
+    ap₂ ◌+◌ (sym (sum_only n c g (within c (Memᴰ.head refl)))) (over_times n g cs (λ d m. within d (Memᴰ.tail m)))
+    ∙ sym (sum_add n (λ k. cond (eqb c k) (g k) 0) (λ k. times k cs * g k))
+    ∙ sum_cong n (λ k l. step (eqb c k) k)
   where
     step : (b : Bool) (k : ℕ) → cond b (g k) 0 + times k cs * g k ≡ cond b (suc (times k cs)) (times k cs) * g k
     step true k = omega (arith, suc-mul (times k cs) (g k))
     step false k = zero-add (times k cs * g k)
 
 -- Where each number below n is named once, the list is as good as the numbers.
-pub over-once : (n : ℕ) (g : ℕ → ℕ) (cs : List ℕ) → ((c : ℕ) → Memᴰ c cs → c < n) → ((k : ℕ) → k < n → times k cs ≡ 1) → sum_over g cs ≡ sum_below n g
-over-once n g cs within once = over-times n g cs within ∙ sum-cong n (λ k l. ap (λ (m : ℕ). m * g k) (once k l) ∙ one-mul (g k))
+pub over_once : (n : ℕ) (g : ℕ → ℕ) (cs : List ℕ) → ((c : ℕ) → Memᴰ c cs → c < n) → ((k : ℕ) → k < n → times k cs ≡ 1) → sum_over g cs ≡ sum_below n g
+over_once n g cs within once = over_times n g cs within ∙ sum_cong n (λ k l. ap (λ (m : ℕ). m * g k) (once k l) ∙ one-mul (g k))

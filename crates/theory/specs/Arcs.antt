@@ -13,8 +13,8 @@ pub record ArcColumns : Type 0 where
   pub letter : List ℕ
   pub to : List ℕ
 
-abbrev pub arc-columns : List ℕ → List ℕ → List ℕ → ArcColumns
-arc-columns f l t = record { from = f; letter = l; to = t }
+abbrev pub arc_columns : List ℕ → List ℕ → List ℕ → ArcColumns
+arc_columns f l t = record { from = f; letter = l; to = t }
 
 -- 01: "an arc count, the arc columns".
 pub record Arcs : Type 0 where
@@ -27,10 +27,10 @@ counted n c = record { count = n; columns = c }
 -- ---- The columns as one table
 
 -- 01, refusal 1: "columns of one table differ in length", here of the arcs.
-unfoldable pub even-arcs : ArcColumns → Bool
-even-arcs c = eqb (length c.letter) (length c.from) && eqb (length c.to) (length c.from)
+unfoldable pub even_arcs : ArcColumns → Bool
+even_arcs c = eqb (length c.letter) (length c.from) && eqb (length c.to) (length c.from)
 
--- What `even-arcs` tests.
+-- What `even_arcs` tests.
 pub record EvenArcs (c : ArcColumns) : Type 0 where
   pub letter : length c.letter ≡ length c.from
   pub to : length c.to ≡ length c.from
@@ -42,32 +42,32 @@ pub record Spans (c : ArcColumns) (n : ℕ) : Type 0 where
   pub to : n ≤ length c.to
 
 -- The columns with one arc stored at place n.
-abbrev pub with-arc : ArcColumns → ℕ → Arc → ArcColumns
-with-arc c n z = arc-columns (set c.from n z.from) (set c.letter n z.letter) (set c.to n z.to)
+abbrev pub with_arc : ArcColumns → ℕ → Arc → ArcColumns
+with_arc c n z = arc_columns (set c.from n z.from) (set c.letter n z.letter) (set c.to n z.to)
 
 -- 01: "sets all lent output and work columns to zero".
-abbrev pub no-arcs : ArcColumns → ArcColumns
-no-arcs c = arc-columns (zeros (length c.from)) (zeros (length c.letter)) (zeros (length c.to))
+abbrev pub no_arcs : ArcColumns → ArcColumns
+no_arcs c = arc_columns (zeros (length c.from)) (zeros (length c.letter)) (zeros (length c.to))
 
 -- 01: "Beyond the counts all columns hold zero": these arcs in columns as long as those of c.
-abbrev pub filled-arcs : ArcColumns → List Arc → ArcColumns
-filled-arcs c zs =
-    arc-columns (filled (length c.from) (map (λ (z : Arc). z.from) zs)) (filled (length c.letter) (map (λ (z : Arc). z.letter) zs))
+abbrev pub filled_arcs : ArcColumns → List Arc → ArcColumns
+filled_arcs c zs =
+    arc_columns (filled (length c.from) (map (λ (z : Arc). z.from) zs)) (filled (length c.letter) (map (λ (z : Arc). z.letter) zs))
     (filled (length c.to) (map (λ (z : Arc). z.to) zs))
 
 -- ---- The arcs that are used
 
 -- Arc i of the columns.
-abbrev pub arc-at : ArcColumns → ℕ → Arc
-arc-at c i = arc (get_or c.from i 0) (get_or c.letter i 0) (get_or c.to i 0)
+abbrev pub arc_at : ArcColumns → ℕ → Arc
+arc_at c i = arc (get_or c.from i 0) (get_or c.letter i 0) (get_or c.to i 0)
 
-unfoldable pub first-arcs : ArcColumns → ℕ → List Arc
-first-arcs c zero = []
-first-arcs c (suc n) = first-arcs c n ++ (arc-at c n ∷ [])
+unfoldable pub first_arcs : ArcColumns → ℕ → List Arc
+first_arcs c zero = []
+first_arcs c (suc n) = first_arcs c n ++ (arc_at c n ∷ [])
 
 -- 01: "a used arc".
 abbrev pub used : Arcs → List Arc
-used a = first-arcs a.columns a.count
+used a = first_arcs a.columns a.count
 
 -- ---- The states reached
 
@@ -106,12 +106,12 @@ reached a w = after a start w
 -- ---- The first byte after which no state is reached
 
 -- A byte leads on where some used arc leads by it from a state of s.
-unfoldable pub leads-on : Arcs → States → ℕ → Bool
+unfoldable pub leads_on : Arcs → States → ℕ → Bool
 unfolding some_below leaves
-leads-on a s b = some_below a.count (leaves a.columns s b)
+leads_on a s b = some_below a.count (leaves a.columns s b)
 
 -- The first byte of a record, counted from p, that does not lead on.
-unfoldable pub dead-at : Arcs → States → ℕ → Word → Option ℕ
-unfolding moved leads-on
-dead-at a s p [] = none
-dead-at a s p (b ∷ w) = elim (leads-on a s b) [ true ↦ dead-at a (moved a s b) (suc p) w | false ↦ some p ]
+unfoldable pub dead_at : Arcs → States → ℕ → Word → Option ℕ
+unfolding moved leads_on
+dead_at a s p [] = none
+dead_at a s p (b ∷ w) = elim (leads_on a s b) [ true ↦ dead_at a (moved a s b) (suc p) w | false ↦ some p ]

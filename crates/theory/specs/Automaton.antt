@@ -5,7 +5,7 @@ use Rattle.theory.specs.Limit.{last_letter}
 use Rattle.theory.specs.Expression.{Expression, same, ε, parts, letters}
 use Rattle.theory.specs.Distinct.{distinct, place}
 use Rattle.theory.specs.Language.{Word}
-use Rattle.theory.specs.Derivative.{empty-word, derivative}
+use Rattle.theory.specs.Derivative.{empty_word, derivative}
 
 -- n numbers in ascending order, the first of them `first`
 unfoldable pub ascending : ℕ → ℕ → List ℕ
@@ -34,7 +34,7 @@ rounds zero e s = s
 rounds (suc k) e s = let t = met e s in elim (eqb (length t) (length s)) [ true ↦ s | false ↦ rounds k e t ]
 
 -- 01: "State 0 is the given expression. States are handled in number order, letters from 1 to 255 for each, members in list order;
--- a new expression gets the next state number." The law `states-complete` says that the bound on the rounds is always enough.
+-- a new expression gets the next state number." The law `states_complete` says that the bound on the rounds is always enough.
 unfoldable pub states : Expression → List Expression
 unfolding rounds letters
 states e = rounds (2 ^ length (letters e)) e (e ∷ [])
@@ -46,8 +46,8 @@ pub data Derived (e : Expression) : Expression → Type 0 where
 
 -- 01: "A state is accepting when its language holds the empty word", as the accepting column has it: "accepting 0 or 1".
 unfoldable pub accepting : Expression → List ℕ
-unfolding empty-word states
-accepting e = map (λ x. cond (empty-word x) 1 0) (states e)
+unfolding empty_word states
+accepting e = map (λ x. cond (empty_word x) 1 0) (states e)
 
 -- 01: "arcs (from 16 bits, letter 8 bits, to 16 bits)".
 pub record Arc : Type 0 where
@@ -64,15 +64,15 @@ unfolding flat_map alphabet derivative place same
 leaving s i x = flat_map (λ a. map (λ m. arc i a (place same m s)) (derivative a x)) alphabet
 
 -- The arcs that leave the states xs, numbered from i, among the states s.
-unfoldable pub leaving-all : List Expression → ℕ → List Expression → List Arc
+unfoldable pub leaving_all : List Expression → ℕ → List Expression → List Arc
 unfolding leaving
-leaving-all s i [] = []
-leaving-all s i (x ∷ xs) = leaving s i x ++ leaving-all s (suc i) xs
+leaving_all s i [] = []
+leaving_all s i (x ∷ xs) = leaving s i x ++ leaving_all s (suc i) xs
 
 -- 01: "Arcs stand in the order met."
 unfoldable pub arcs : Expression → List Arc
-unfolding states leaving-all
-arcs e = let s = states e in leaving-all s 0 s
+unfolding states leaving_all
+arcs e = let s = states e in leaving_all s 0 s
 
 -- 01, "Needs": "the different trees among the literal empty word, the states, and all parts of states".
 unfoldable pub expressions : Expression → List Expression

@@ -7,13 +7,13 @@ unfoldable pub some_below : ℕ → (ℕ → Bool) → Bool
 some_below zero p = false
 some_below (suc n) p = some_below n p || p n
 
-unfoldable pub all-below : ℕ → (ℕ → Bool) → Bool
-all-below zero p = true
-all-below (suc n) p = all-below n p && p n
+unfoldable pub all_below : ℕ → (ℕ → Bool) → Bool
+all_below zero p = true
+all_below (suc n) p = all_below n p && p n
 
-unfoldable pub count-below : ℕ → (ℕ → Bool) → ℕ
-count-below zero p = 0
-count-below (suc n) p = cond (p n) (suc (count-below n p)) (count-below n p)
+unfoldable pub count_below : ℕ → (ℕ → Bool) → ℕ
+count_below zero p = 0
+count_below (suc n) p = cond (p n) (suc (count_below n p)) (count_below n p)
 
 -- P holds of n numbers: a list without repeats has those of which it holds, and no other.
 pub record HowMany (P : ℕ → Type 0) (n : ℕ) : Type 0 where

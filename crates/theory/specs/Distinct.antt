@@ -8,9 +8,9 @@ unless (yes p) y ys = ys
 unless (no n) y ys = y ∷ ys
 
 -- 0 where the question is answered yes, and one more than k where it is not
-abbrev pub here-or : {P : Type 0} → Dec P → ℕ → ℕ
-here-or (yes p) k = 0
-here-or (no n) k = suc k
+abbrev pub here_or : {P : Type 0} → Dec P → ℕ → ℕ
+here_or (yes p) k = 0
+here_or (no n) k = suc k
 
 module _ {A : Type 0} (same : Discrete A) where
   -- ys with each x taken out
@@ -33,7 +33,7 @@ module _ {A : Type 0} (same : Discrete A) where
   -- the first place of x in ys, from 0; the length of ys where x does not stand in it
   unfoldable pub place : A → List A → ℕ
   place x [] = 0
-  place x (y ∷ ys) = here-or (same x y) (place x ys)
+  place x (y ∷ ys) = here_or (same x y) (place x ys)
 
 -- No member stands twice.
 abbrev pub NoRepeats : {A : Type 0} → List A → Type 0

@@ -3,78 +3,78 @@
 use Rattle.std.specs.Prelude.{ℕ, suc, ◌+◌, ◌-◌, ◌≤◌, ◌<◌, pred, ◌≡◌, Bool, cond, not, ◌&&◌, ◌||◌, List, [], ◌∷◌, ◌++◌, length, take, T, eqb, leb}
 use Rattle.theory.specs.Kind
 use Rattle.theory.specs.Expression.{Expression, Sign, ∅, ε, letter, binary, star, union, concatenation, shuffle, entries}
-use Rattle.theory.specs.Limit.{most-open}
-use Rattle.theory.specs.Refusal.{Refusal, refusal, not-grammar, too-deep, too-many-entries}
-use Rattle.theory.specs.Table.{Row, entry, kind-of-sign, times}
+use Rattle.theory.specs.Limit.{most_open}
+use Rattle.theory.specs.Refusal.{Refusal, refusal, not_grammar, too_deep, too_many_entries}
+use Rattle.theory.specs.Table.{Row, entry, kind_of_sign, times}
 
 abbrev pub Text : Type 0
 Text = List ℕ
 
 -- ---- The bytes
 
-abbrev pub byte-& : ℕ
-byte-& = 38
+abbrev pub byte_& : ℕ
+byte_& = 38
 
-abbrev pub byte-open : ℕ
-byte-open = 40
+abbrev pub byte_open : ℕ
+byte_open = 40
 
-abbrev pub byte-close : ℕ
-byte-close = 41
+abbrev pub byte_close : ℕ
+byte_close = 41
 
-abbrev pub byte-* : ℕ
-byte-* = 42
+abbrev pub byte_* : ℕ
+byte_* = 42
 
-abbrev pub byte-+ : ℕ
-byte-+ = 43
+abbrev pub byte_+ : ℕ
+byte_+ = 43
 
-abbrev pub byte-dot : ℕ
-byte-dot = 46
+abbrev pub byte_dot : ℕ
+byte_dot = 46
 
-abbrev pub byte-0 : ℕ
-byte-0 = 48
+abbrev pub byte_0 : ℕ
+byte_0 = 48
 
-abbrev pub byte-1 : ℕ
-byte-1 = 49
+abbrev pub byte_1 : ℕ
+byte_1 = 49
 
-abbrev pub byte-A : ℕ
-byte-A = 65
+abbrev pub byte_A : ℕ
+byte_A = 65
 
-abbrev pub byte-Z : ℕ
-byte-Z = 90
+abbrev pub byte_Z : ℕ
+byte_Z = 90
 
-abbrev pub byte-a : ℕ
-byte-a = 97
+abbrev pub byte_a : ℕ
+byte_a = 97
 
-abbrev pub byte-z : ℕ
-byte-z = 122
+abbrev pub byte_z : ℕ
+byte_z = 122
 
 -- 01: "one letter `A`-`Z` or `a`-`z`".
-unfoldable pub is-letter : ℕ → Bool
-is-letter b = (leb byte-A b && leb b byte-Z) || (leb byte-a b && leb b byte-z)
+unfoldable pub is_letter : ℕ → Bool
+is_letter b = (leb byte_A b && leb b byte_Z) || (leb byte_a b && leb b byte_z)
 
 -- 01: "with sign `+`, `.` or `&`"; "the sign `&` for shuffle, `+` for union and `.` for concatenation".
-unfoldable pub sign-byte : Sign → ℕ
-sign-byte union = byte-+
-sign-byte concatenation = byte-dot
-sign-byte shuffle = byte-&
+unfoldable pub sign_byte : Sign → ℕ
+sign_byte union = byte_+
+sign_byte concatenation = byte_dot
+sign_byte shuffle = byte_&
 
 -- ---- What a written expression is
 
 -- 01: "`0` alone is the empty language. Otherwise an expression is `1`, or one letter, or `(` expression sign expression `)`,
 -- or an expression followed by `*`."
 unfoldable pub written : Expression → Text
-unfolding sign-byte
-written ∅ = byte-0 ∷ []
-written ε = byte-1 ∷ []
+unfolding sign_byte
+written ∅ = byte_0 ∷ []
+written ε = byte_1 ∷ []
 written (letter a) = a ∷ []
-written (binary s x y) = byte-open ∷ (written x ++ sign-byte s ∷ (written y ++ byte-close ∷ []))
-written (star x) = written x ++ byte-* ∷ []
+written (binary s x y) = byte_open ∷ (written x ++ sign_byte s ∷ (written y ++ byte_close ∷ []))
+written (star x) = written x ++ byte_* ∷ []
 
 -- The expressions of the sentence's "otherwise".
 abbrev pub Inner : Expression → Type 0
 Inner ∅ = ⊥
 Inner ε = Unit {0}
-Inner (letter a) = T (is-letter a)
+Inner (letter a) = T (is_letter a)
 Inner (binary s x y) = Inner x × Inner y
 Inner (star x) = Inner x
 
@@ -99,16 +99,16 @@ Viable s = (rest : Text) × Whole (s ++ rest)
 -- "parentheses open at once": those opened less those closed.
 unfoldable pub depth : Text → ℕ
 unfolding times
-depth s = times byte-open s - times byte-close s
+depth s = times byte_open s - times byte_close s
 
 -- 01: "Entries are made in this order: `0`, `1` or a letter at its byte, a star at its `*`, a sign's entry at its `)`."
-unfoldable pub makes-entry : ℕ → Bool
-makes-entry b = not (eqb b byte-open || eqb b byte-+ || eqb b byte-dot || eqb b byte-&)
+unfoldable pub makes_entry : ℕ → Bool
+makes_entry b = not (eqb b byte_open || eqb b byte_+ || eqb b byte_dot || eqb b byte_&)
 
 unfoldable pub made : Text → ℕ
-unfolding makes-entry
+unfolding makes_entry
 made [] = 0
-made (b ∷ t) = cond (makes-entry b) (suc (made t)) (made t)
+made (b ∷ t) = cond (makes_entry b) (suc (made t)) (made t)
 
 -- ---- The reading, by what it is
 
@@ -120,28 +120,28 @@ pub data Reading : Type 0 where
 -- made no entry more than `room`.
 pub record Passed (room : ℕ) (s : Text) : Type 0 where
   pub viable : Viable s
-  pub shallow : (p : ℕ) → depth (take p s) ≤ most-open
+  pub shallow : (p : ℕ) → depth (take p s) ≤ most_open
   pub fits : made s ≤ room
 
 -- The refusal table's lines for 13, 14 and 15: p is the earliest byte at which one of them is due, since the start before it has passed.
 pub data Reads (room : ℕ) (t : Text) : Reading → Type 0 where
   whole : (e : Expression) → Writable e → written e ≡ t → Passed room t → Reads room t (read e)
-  broken : (p : ℕ) → p < length t → Passed room (take p t) → ¬ Viable (take (suc p) t) → Reads room t (refused (refusal not-grammar p))
-  stopped : Passed room t → ¬ Whole t → Reads room t (refused (refusal not-grammar (length t)))
-  deep : (p : ℕ) → p < length t → Passed room (take p t) → Viable (take (suc p) t) → most-open < depth (take (suc p) t)
-      → Reads room t (refused (refusal too-deep p))
+  broken : (p : ℕ) → p < length t → Passed room (take p t) → ¬ Viable (take (suc p) t) → Reads room t (refused (refusal not_grammar p))
+  stopped : Passed room t → ¬ Whole t → Reads room t (refused (refusal not_grammar (length t)))
+  deep : (p : ℕ) → p < length t → Passed room (take p t) → Viable (take (suc p) t) → most_open < depth (take (suc p) t)
+      → Reads room t (refused (refusal too_deep p))
   many : (p : ℕ) → p < length t → Passed room (take p t) → Viable (take (suc p) t) → room < made (take (suc p) t)
-      → Reads room t (refused (refusal too-many-entries p))
+      → Reads room t (refused (refusal too_many_entries p))
 
 -- ---- The entries of an expression that was read
 
 -- Rows as they are made, the first of them with number `base`: an expression's last row is its own.
 unfoldable pub rows : ℕ → Expression → List Row
-unfolding entries kind-of-sign
-rows base ∅ = entry Kind.empty-language 0 0 ∷ []
-rows base ε = entry Kind.empty-word 0 0 ∷ []
+unfolding entries kind_of_sign
+rows base ∅ = entry Kind.empty_language 0 0 ∷ []
+rows base ε = entry Kind.empty_word 0 0 ∷ []
 rows base (letter a) = entry Kind.letter a 0 ∷ []
 rows base (binary s x y) =
     rows base x ++ rows (base + entries x) y
-    ++ (entry (kind-of-sign s) (base + pred (entries x)) (base + entries x + pred (entries y)) ∷ [])
+    ++ (entry (kind_of_sign s) (base + pred (entries x)) (base + entries x + pred (entries y)) ∷ [])
 rows base (star x) = rows base x ++ (entry Kind.star (base + pred (entries x)) 0 ∷ [])

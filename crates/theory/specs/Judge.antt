@@ -2,7 +2,7 @@
 use Rattle.std.specs.Prelude.{ℕ, ◌≡◌, true, false, eqb}
 use Rattle.theory.specs.Refusal.{Refusal, success}
 use Rattle.theory.specs.Language.{Word}
-use Rattle.theory.specs.Record.{Handed, Work, cleared, Verdict, accepted, unfinished, wrong, verdict, live, matcher-refusal}
+use Rattle.theory.specs.Record.{Handed, Work, cleared, Verdict, accepted, unfinished, wrong, verdict, live, matcher_refusal}
 
 -- The answer as numbers: the refusal, the verdict (1 accepted, 2 unfinished, 3 wrong, and 0 where the call is refused), its place, and live.
 pub record Judgement : Type 0 where
@@ -21,9 +21,9 @@ abbrev pub withheld : Refusal → Judgement
 withheld r = record { refusal = r; verdict = 0; place = 0; live = 0 }
 
 unfoldable pub judgement : Handed → Work → Word → Judgement
-unfolding matcher-refusal verdict live
+unfolding matcher_refusal verdict live
 judgement h k w =
-    elim (eqb (matcher-refusal h k).number 0) [ true ↦ given (verdict h w) (live h w) | false ↦ withheld (matcher-refusal h k) ]
+    elim (eqb (matcher_refusal h k).number 0) [ true ↦ given (verdict h w) (live h w) | false ↦ withheld (matcher_refusal h k) ]
 
 -- What `judge` owes: the answer, and the work columns zero whole on every way out (01: "Work columns are zero afterwards").
 pub record Judged (h : Handed) (w : Word) (k : Work) (answer : Judgement) (k' : Work) : Type 0 where

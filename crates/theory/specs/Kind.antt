@@ -1,11 +1,11 @@
 -- The kinds of 01's expression table by name. The code has them under the same names in src/kind.rt.
 use Rattle.std.specs.Prelude.{ℕ}
 
-abbrev pub empty-language : ℕ
-empty-language = 0
+abbrev pub empty_language : ℕ
+empty_language = 0
 
-abbrev pub empty-word : ℕ
-empty-word = 1
+abbrev pub empty_word : ℕ
+empty_word = 1
 
 abbrev pub letter : ℕ
 letter = 2

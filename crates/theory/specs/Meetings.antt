@@ -17,24 +17,24 @@ abbrev pub meeting : ℕ → ℕ → Expression → Meeting
 meeting i a m = record { from = i; letter = a; target = m }
 
 -- What is met from state i, the expression x, by some letters.
-unfoldable pub by-letters : ℕ → Expression → List ℕ → List Meeting
+unfoldable pub by_letters : ℕ → Expression → List ℕ → List Meeting
 unfolding flat_map
-by-letters i x ls = flat_map (λ a. map (meeting i a) (derivative a x)) ls
+by_letters i x ls = flat_map (λ a. map (meeting i a) (derivative a x)) ls
 
 -- What is met from the states xs, numbered from i.
-unfoldable pub by-states : ℕ → List Expression → List Meeting
-unfolding by-letters
-by-states i [] = []
-by-states i (x ∷ xs) = by-letters i x alphabet ++ by-states (suc i) xs
+unfoldable pub by_states : ℕ → List Expression → List Meeting
+unfolding by_letters
+by_states i [] = []
+by_states i (x ∷ xs) = by_letters i x alphabet ++ by_states (suc i) xs
 
 -- All that is met.
 abbrev pub meetings : Expression → List Meeting
-meetings e = by-states 0 (states e)
+meetings e = by_states 0 (states e)
 
 -- All that is met before state i is left by a letter above a.
 unfoldable pub before : Expression → ℕ → ℕ → List Meeting
-unfolding by-states by-letters
-before e i a = by-states 0 (take i (states e)) ++ by-letters i (get_or (states e) i ∅) (ascending 1 a)
+unfolding by_states by_letters
+before e i a = by_states 0 (take i (states e)) ++ by_letters i (get_or (states e) i ∅) (ascending 1 a)
 
 -- `done` is where the meetings of e begin.
 pub record Starts (e : Expression) (done : List Meeting) : Type 0 where
@@ -49,5 +49,5 @@ unfoldable pub so_far : Expression → List Meeting → List Expression
 so_far e done = distinct same (e ∷ targets done)
 
 -- A meeting as an arc among the states s.
-abbrev pub to-arc : List Expression → Meeting → Arc
-to-arc s m = arc m.from m.letter (place same m.target s)
+abbrev pub to_arc : List Expression → Meeting → Arc
+to_arc s m = arc m.from m.letter (place same m.target s)

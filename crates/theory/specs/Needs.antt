@@ -22,9 +22,9 @@ pub data Tree (e x : Expression) : Type 0 where
 
 -- "States: the different expressions so reached. Arcs: the different triples. Expressions: the different trees".
 pub record Counted (e : Expression) : Type 0 where
-  pub states-once : NoRepeats (states e)
+  pub states_once : NoRepeats (states e)
   pub states : (x : Expression) → Memᴰ x (states e) ↔ Derived e x
-  pub arcs-once : NoRepeats (arcs e)
+  pub arcs_once : NoRepeats (arcs e)
   pub arcs : (i a j : ℕ) → Memᴰ (arc i a j) (arcs e) ↔ Triple e i a j
-  pub expressions-once : NoRepeats (expressions e)
+  pub expressions_once : NoRepeats (expressions e)
   pub expressions : (x : Expression) → Memᴰ x (expressions e) ↔ Tree e x

@@ -16,59 +16,59 @@ success = refusal 0 0
 abbrev pub or_else : Refusal → Refusal → Refusal
 or_else r s = cond (eqb r.number 0) s r
 
-abbrev pub columns-differ : ℕ
-columns-differ = 1
+abbrev pub columns_differ : ℕ
+columns_differ = 1
 
 abbrev pub table_empty : ℕ
 table_empty = 2
 
-abbrev pub table-long : ℕ
-table-long = 3
+abbrev pub table_long : ℕ
+table_long = 3
 
-abbrev pub kind-unknown : ℕ
-kind-unknown = 4
+abbrev pub kind_unknown : ℕ
+kind_unknown = 4
 
-abbrev pub field-outside : ℕ
-field-outside = 5
+abbrev pub field_outside : ℕ
+field_outside = 5
 
-abbrev pub child-not-smaller : ℕ
-child-not-smaller = 6
+abbrev pub child_not_smaller : ℕ
+child_not_smaller = 6
 
-abbrev pub empty-language-inside : ℕ
-empty-language-inside = 7
+abbrev pub empty_language_inside : ℕ
+empty_language_inside = 7
 
-abbrev pub not-named-once : ℕ
-not-named-once = 8
+abbrev pub not_named_once : ℕ
+not_named_once = 8
 
 abbrev pub room_small : ℕ
 room_small = 9
 
-abbrev pub automaton-malformed : ℕ
-automaton-malformed = 10
+abbrev pub automaton_malformed : ℕ
+automaton_malformed = 10
 
-abbrev pub work-short : ℕ
-work-short = 11
+abbrev pub work_short : ℕ
+work_short = 11
 
-abbrev pub text-long : ℕ
-text-long = 12
+abbrev pub text_long : ℕ
+text_long = 12
 
-abbrev pub not-grammar : ℕ
-not-grammar = 13
+abbrev pub not_grammar : ℕ
+not_grammar = 13
 
-abbrev pub too-deep : ℕ
-too-deep = 14
+abbrev pub too_deep : ℕ
+too_deep = 14
 
-abbrev pub too-many-entries : ℕ
-too-many-entries = 15
+abbrev pub too_many_entries : ℕ
+too_many_entries = 15
 
 -- the records program's own: no library call gives it
-abbrev pub record-long : ℕ
-record-long = 16
+abbrev pub record_long : ℕ
+record_long = 16
 
 -- the room report's own
-abbrev pub lines-many : ℕ
-lines-many = 22
+abbrev pub lines_many : ℕ
+lines_many = 22
 
 -- the host's
-abbrev pub counts-few : ℕ
-counts-few = 23
+abbrev pub counts_few : ℕ
+counts_few = 23

@@ -2,8 +2,8 @@
 -- totals". "It has the rooms of the other two programs."
 use Rattle.std.specs.Prelude.{ℕ, ◌+◌, ◌^◌, Bool, cond, ◌||◌, List, [], ◌∷◌, map, length, eqb, ltb}
 use Rattle.theory.specs.Expression.{Expression, entries, letters}
-use Rattle.theory.specs.Refusal.{Refusal, refusal, success, room_small, text-long}
-use Rattle.theory.specs.Limit.{longest-text}
+use Rattle.theory.specs.Refusal.{Refusal, refusal, success, room_small, text_long}
+use Rattle.theory.specs.Limit.{longest_text}
 use Rattle.theory.specs.Automaton.{states, expressions, arcs}
 use Rattle.theory.specs.Grammar.{Text, Reading, read, refused}
 use Rattle.theory.specs.Scan.{scan}
@@ -44,16 +44,16 @@ too_large e =
 -- 01: "Reader: 1, 12, then the one of 13, 14, 15 with the earliest byte".
 unfoldable pub reading : Text → Reading
 unfolding scan
-reading text = cond (ltb longest-text (length text)) (refused (refusal text-long 0)) (scan Rooms.entries text)
+reading text = cond (ltb longest_text (length text)) (refused (refusal text_long 0)) (scan Rooms.entries text)
 
-unfoldable pub of-reading : Reading → Report
+unfoldable pub of_reading : Reading → Report
 unfolding too_large needs
-of-reading (read e) = cond (too_large e) (withheld (refusal room_small 0)) (needs e)
-of-reading (refused r) = withheld r
+of_reading (read e) = cond (too_large e) (withheld (refusal room_small 0)) (needs e)
+of_reading (refused r) = withheld r
 
 unfoldable pub report : Text → Report
-unfolding reading of-reading
-report text = of-reading (reading text)
+unfolding reading of_reading
+report text = of_reading (reading text)
 
 -- ---- The totals
 
@@ -72,18 +72,18 @@ unfoldable pub sum : (Report → ℕ) → List Report → ℕ
 sum f [] = 0
 sum f (r ∷ rs) = f r + sum f rs
 
-abbrev pub is-built : Report → Bool
-is-built r = eqb r.refusal.number 0
+abbrev pub is_built : Report → Bool
+is_built r = eqb r.refusal.number 0
 
 -- "m at most 10"
-abbrev pub is-small : Report → Bool
-is-small r = ltb r.letters 11
+abbrev pub is_small : Report → Bool
+is_small r = ltb r.letters 11
 
 unfoldable pub totals : List Text → Totals
 unfolding those sum report
 totals texts =
-    let built = those is-built (map report texts) in
-    let small = those is-small built in
+    let built = those is_built (map report texts) in
+    let small = those is_small built in
     record {
       built = length built;
       states = sum (λ r. r.states) built;

@@ -3,8 +3,8 @@ use Rattle.std.specs.Prelude.{ℕ, zero, suc, pred, ◌≤◌, ◌<◌, ◌≡�
 use mathlib.Core.List.{List, [], ◌∷◌, ◌++◌, map, Memᴰ}
 use Rattle.theory.specs.Kind
 use Rattle.theory.specs.Expression.{Expression, pair, Sign, ∅, ε, letter, star, union, concatenation, shuffle}
-use Rattle.theory.specs.Limit.{most-entries, last_letter}
-use Rattle.theory.specs.Refusal.{Refusal, refusal, success, or_else, columns-differ, table_empty, table-long, kind-unknown, field-outside, child-not-smaller, empty-language-inside, not-named-once}
+use Rattle.theory.specs.Limit.{most_entries, last_letter}
+use Rattle.theory.specs.Refusal.{Refusal, refusal, success, or_else, columns_differ, table_empty, table_long, kind_unknown, field_outside, child_not_smaller, empty_language_inside, not_named_once}
 
 -- 01: "Three columns of equal length: kind (8 bits), left (16 bits), right (16 bits)."
 pub record Table : Type 0 where
@@ -30,59 +30,59 @@ columns ws = record { kind = map (λ (w : Row). w.kind) ws; left = map (λ (w : 
 
 -- 01's table of kinds: the column "meaning".
 pub data Meaning : Type 0 where
-  ∅-kind ε-kind letter-kind : Meaning
-  sign-kind : Sign → Meaning
-  star-kind unknown-kind : Meaning
+  ∅-kind ε_kind letter_kind : Meaning
+  sign_kind : Sign → Meaning
+  star_kind unknown_kind : Meaning
 
 -- The same column from kind 0 on.
 abbrev pub kinds : List Meaning
 kinds =
-    ∅-kind ∷ ε-kind ∷ letter-kind ∷ sign-kind union ∷ sign-kind concatenation ∷ sign-kind shuffle ∷ star-kind ∷ []
+    ∅-kind ∷ ε_kind ∷ letter_kind ∷ sign_kind union ∷ sign_kind concatenation ∷ sign_kind shuffle ∷ star_kind ∷ []
 
 unfoldable pub meaning : ℕ → Meaning
-meaning k = get_or kinds k unknown-kind
+meaning k = get_or kinds k unknown_kind
 
 -- The kind of a sign's entry: "3, 4, 5 | union, concatenation, shuffle".
-unfoldable pub kind-of-sign : Sign → ℕ
-kind-of-sign union = Kind.union
-kind-of-sign concatenation = Kind.concatenation
-kind-of-sign shuffle = Kind.shuffle
+unfoldable pub kind_of_sign : Sign → ℕ
+kind_of_sign union = Kind.union
+kind_of_sign concatenation = Kind.concatenation
+kind_of_sign shuffle = Kind.shuffle
 
 abbrev pub entry : ℕ → ℕ → ℕ → Row
 entry k l r = record { kind = k; left = l; right = r }
 
 -- 01's table of kinds as what a row may be; "A child's number is smaller than its parent's", here i.
 pub data Sound (i : ℕ) (w : Row) : Type 0 where
-  of-∅ : w ≡ entry Kind.empty-language 0 0 → Sound i w
-  of-ε : w ≡ entry Kind.empty-word 0 0 → Sound i w
-  of-letter : (a : ℕ) → 1 ≤ a → a ≤ last_letter → w ≡ entry Kind.letter a 0 → Sound i w
-  of-sign : (s : Sign) (l r : ℕ) → l < i → r < i → w ≡ entry (kind-of-sign s) l r → Sound i w
-  of-star : (l : ℕ) → l < i → w ≡ entry Kind.star l 0 → Sound i w
+  of_∅ : w ≡ entry Kind.empty_language 0 0 → Sound i w
+  of_ε : w ≡ entry Kind.empty_word 0 0 → Sound i w
+  of_letter : (a : ℕ) → 1 ≤ a → a ≤ last_letter → w ≡ entry Kind.letter a 0 → Sound i w
+  of_sign : (s : Sign) (l r : ℕ) → l < i → r < i → w ≡ entry (kind_of_sign s) l r → Sound i w
+  of_star : (l : ℕ) → l < i → w ≡ entry Kind.star l 0 → Sound i w
 
 -- The tree of a row over the trees of the rows before it.
 unfoldable pub node : Meaning → ℕ → ℕ → List Expression → Expression
 unfolding pair
 node ∅-kind l r ts = ∅
-node ε-kind l r ts = ε
-node letter-kind l r ts = letter l
-node (sign-kind s) l r ts = pair s (get_or ts l ∅) (get_or ts r ∅)
-node star-kind l r ts = star (get_or ts l ∅)
-node unknown-kind l r ts = ∅
+node ε_kind l r ts = ε
+node letter_kind l r ts = letter l
+node (sign_kind s) l r ts = pair s (get_or ts l ∅) (get_or ts r ∅)
+node star_kind l r ts = star (get_or ts l ∅)
+node unknown_kind l r ts = ∅
 
-unfoldable pub row-tree : Row → List Expression → Expression
+unfoldable pub row_tree : Row → List Expression → Expression
 unfolding meaning node
-row-tree w ts = node (meaning w.kind) w.left w.right ts
+row_tree w ts = node (meaning w.kind) w.left w.right ts
 
 -- The trees of the first n rows.
 unfoldable pub trees : Table → ℕ → List Expression
-unfolding row-tree
+unfolding row_tree
 trees t zero = []
-trees t (suc n) = let ts = trees t n in ts ++ (row-tree (row t n) ts ∷ [])
+trees t (suc n) = let ts = trees t n in ts ++ (row_tree (row t n) ts ∷ [])
 
 -- The tree of row i.
-unfoldable pub tree-at : Table → ℕ → Expression
-unfolding row-tree trees
-tree-at t i = row-tree (row t i) (trees t i)
+unfoldable pub tree_at : Table → ℕ → Expression
+unfolding row_tree trees
+tree_at t i = row_tree (row t i) (trees t i)
 
 -- 01: "The table is the whole of the columns lent".
 abbrev pub size : Table → ℕ
@@ -96,38 +96,38 @@ tree t = get_or (trees t (size t)) (pred (size t)) ∅
 -- The columns "left" and "right" of 01's table of kinds, where they hold no child.
 unfoldable pub fields_fit : Meaning → ℕ → ℕ → Bool
 fields_fit ∅-kind l r = eqb l 0 && eqb r 0
-fields_fit ε-kind l r = eqb l 0 && eqb r 0
-fields_fit letter-kind l r = leb 1 l && leb l last_letter && eqb r 0
-fields_fit (sign-kind s) l r = true
-fields_fit star-kind l r = eqb r 0
-fields_fit unknown-kind l r = true
+fields_fit ε_kind l r = eqb l 0 && eqb r 0
+fields_fit letter_kind l r = leb 1 l && leb l last_letter && eqb r 0
+fields_fit (sign_kind s) l r = true
+fields_fit star_kind l r = eqb r 0
+fields_fit unknown_kind l r = true
 
 -- The same columns where they hold a child.
 unfoldable pub children : Meaning → ℕ → ℕ → List ℕ
 children ∅-kind l r = []
-children ε-kind l r = []
-children letter-kind l r = []
-children (sign-kind s) l r = l ∷ r ∷ []
-children star-kind l r = l ∷ []
-children unknown-kind l r = []
+children ε_kind l r = []
+children letter_kind l r = []
+children (sign_kind s) l r = l ∷ r ∷ []
+children star_kind l r = l ∷ []
+children unknown_kind l r = []
 
-unfoldable pub row-children : Row → List ℕ
+unfoldable pub row_children : Row → List ℕ
 unfolding meaning children
-row-children w = children (meaning w.kind) w.left w.right
+row_children w = children (meaning w.kind) w.left w.right
 
 -- "A child's number is smaller than its parent's", here i.
-unfoldable pub all-smaller : ℕ → List ℕ → Bool
-all-smaller i [] = true
-all-smaller i (c ∷ cs) = ltb c i && all-smaller i cs
+unfoldable pub all_smaller : ℕ → List ℕ → Bool
+all_smaller i [] = true
+all_smaller i (c ∷ cs) = ltb c i && all_smaller i cs
 
 -- 01: "entries from 0 upward, each checked for 4, 5, 6, 7": entry i of a table of n; 0 where nothing is wrong with it.
-unfoldable pub entry-fault : ℕ → ℕ → Row → ℕ
-unfolding meaning fields_fit row-children all-smaller
-entry-fault n i w =
-    cond (ltb Kind.last w.kind) kind-unknown
-    (cond (not (fields_fit (meaning w.kind) w.left w.right)) field-outside
-    (cond (not (all-smaller i (row-children w))) child-not-smaller
-    (cond (eqb w.kind Kind.empty-language && ltb 1 n) empty-language-inside 0)))
+unfoldable pub entry_fault : ℕ → ℕ → Row → ℕ
+unfolding meaning fields_fit row_children all_smaller
+entry_fault n i w =
+    cond (ltb Kind.last w.kind) kind_unknown
+    (cond (not (fields_fit (meaning w.kind) w.left w.right)) field_outside
+    (cond (not (all_smaller i (row_children w))) child_not_smaller
+    (cond (eqb w.kind Kind.empty_language && ltb 1 n) empty_language_inside 0)))
 
 -- How often a number stands in a list.
 unfoldable pub times : ℕ → List ℕ → ℕ
@@ -136,29 +136,29 @@ times i (c ∷ cs) = cond (eqb c i) (suc (times i cs)) (times i cs)
 
 -- All children that the first n rows name.
 unfoldable pub named : Table → ℕ → List ℕ
-unfolding row-children
+unfolding row_children
 named t zero = []
-named t (suc n) = named t n ++ row-children (row t n)
+named t (suc n) = named t n ++ row_children (row t n)
 
 -- 01: "an entry other than the last not named exactly once".
-unfoldable pub naming-fault : Table → ℕ → ℕ
+unfoldable pub naming_fault : Table → ℕ → ℕ
 unfolding times named
-naming-fault t i = cond (eqb (times i (named t (size t))) 1) 0 not-named-once
+naming_fault t i = cond (eqb (times i (named t (size t))) 1) 0 not_named_once
 
 -- The first of the entries from i on, k of them, at which `fault` is not 0.
-unfoldable pub first-fault : (ℕ → ℕ) → ℕ → ℕ → Refusal
-first-fault fault i zero = success
-first-fault fault i (suc k) =
-    elim (eqb (fault i) 0) [ true ↦ first-fault fault (suc i) k | false ↦ refusal (fault i) i ]
+unfoldable pub first_fault : (ℕ → ℕ) → ℕ → ℕ → Refusal
+first_fault fault i zero = success
+first_fault fault i (suc k) =
+    elim (eqb (fault i) 0) [ true ↦ first_fault fault (suc i) k | false ↦ refusal (fault i) i ]
 
 -- 01: "Builder: 1, 2, 3, then entries from 0 upward, each checked for 4, 5, 6, 7; then 8".
-unfoldable pub table-refusal : Table → Refusal
-unfolding first-fault entry-fault naming-fault
-table-refusal t =
-    cond (not (eqb (length t.left) (size t) && eqb (length t.right) (size t))) (refusal columns-differ 0)
+unfoldable pub table_refusal : Table → Refusal
+unfolding first_fault entry_fault naming_fault
+table_refusal t =
+    cond (not (eqb (length t.left) (size t) && eqb (length t.right) (size t))) (refusal columns_differ 0)
     (cond (eqb (size t) 0) (refusal table_empty 0)
-    (cond (ltb most-entries (size t)) (refusal table-long 0)
-    (or_else (first-fault (λ i. entry-fault (size t) i (row t i)) 0 (size t)) (first-fault (naming-fault t) 0 (pred (size t))))))
+    (cond (ltb most_entries (size t)) (refusal table_long 0)
+    (or_else (first_fault (λ i. entry_fault (size t) i (row t i)) 0 (size t)) (first_fault (naming_fault t) 0 (pred (size t))))))
 
 -- ---- A table without refusal
 
@@ -171,13 +171,13 @@ SameLengths t = (length t.left ≡ size t) × (length t.right ≡ size t)
 pub record Faultless (n i : ℕ) (w : Row) : Type 0 where
   pub known : w.kind ≤ Kind.last
   pub fits : fields_fit (meaning w.kind) w.left w.right ≡ true
-  pub smaller : (c : ℕ) → Memᴰ c (row-children w) → c < i
-  pub alone : w.kind ≡ Kind.empty-language → n ≤ 1
+  pub smaller : (c : ℕ) → Memᴰ c (row_children w) → c < i
+  pub alone : w.kind ≡ Kind.empty_language → n ≤ 1
 
 -- 01: "A table has 1 to 512 entries"; "Every entry but the last is named as a child exactly once".
 pub record WellFormed (t : Table) : Type 0 where
   pub lengths : SameLengths t
   pub nonempty : 0 < size t
-  pub short : size t ≤ most-entries
+  pub short : size t ≤ most_entries
   pub faultless : (i : ℕ) → i < size t → Faultless (size t) i (row t i)
   pub once : (i : ℕ) → i < pred (size t) → times i (named t (size t)) ≡ 1

@@ -1,4 +1,4 @@
--- What a verdict and live say of a record, without a test: over the paths of the used arcs. The laws `verdict-says` and `live-says` tie the
+-- What a verdict and live say of a record, without a test: over the paths of the used arcs. The laws `verdict_says` and `live_says` tie the
 -- definitions of `Record` to it.
 use Rattle.std.specs.Prelude.{ℕ, suc, ◌<◌, ◌≡◌, length, get_or, take}
 use Rattle.theory.specs.Language.{Word}

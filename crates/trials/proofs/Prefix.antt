@@ -9,5 +9,5 @@ pub prefix : {k : ℕ} (l : List ℕ) → k ≤ length l → k ≡ length (take 
 prefix {k} l h = sym (length-take-le k l h)
 
 -- Of a repeat, as an array starts.
-pub repeat-prefix : {k : ℕ} (n a : ℕ) → k ≤ n → k ≡ length (take k (replicate n a))
-repeat-prefix {k} n a h = prefix (replicate n a) (subst (λ (m : ℕ). k ≤ m) (sym (length-replicate n a)) h)
+pub repeat_prefix : {k : ℕ} (n a : ℕ) → k ≤ n → k ≡ length (take k (replicate n a))
+repeat_prefix {k} n a h = prefix (replicate n a) (subst (λ (m : ℕ). k ≤ m) (sym (length-replicate n a)) h)

@@ -3,13 +3,13 @@ use borrow.Author.Rules.{rules}
 use mathlib.Core.Path.{◌≡◌, ap}
 use mathlib.Core.Bool.{true}
 use Rattle.theory.specs.Refusal.{Refusal, success}
-use Rattle.theory.specs.Table.{Table, table, table-refusal}
-use Rattle.theory.specs.Arcs.{arc-columns, even-arcs}
+use Rattle.theory.specs.Table.{Table, table, table_refusal}
+use Rattle.theory.specs.Arcs.{arc_columns, even_arcs}
 use Rattle.theory.specs.Build.{Lent, lent, Cleared, even}
 use Rattle.builder.specs.Progress.{Blank}
-use Rattle.builder.proofs.Lengths.{SameLengths, lengths-after, cleared-lengths, cleared-as}
-use Rattle.builder.proofs.Told.{reaches-as}
-use Rattle.builder.proofs.Owed.{cleared-blank, passed, built-refused, built-short, built-whole}
+use Rattle.builder.proofs.Lengths.{SameLengths, lengths_after, cleared_lengths, cleared_as}
+use Rattle.builder.proofs.Told.{reaches_as}
+use Rattle.builder.proofs.Owed.{cleared_blank, passed, built_refused, built_short, built_whole}
 use Rattle.builder.proofs.build.Statement.{statement}
 use Rattle.builder.proofs.build.Tie as tie
 
@@ -126,19 +126,19 @@ abbrev columns-first : tie.Start → Lent
 columns-first c =
     let a = c.args in
     lent (table a.xkind.now a.xleft.now a.xright.now) a.expression.now a.accepting.now
-    (arc-columns a.from.now a.letter.now a.to.now)
+    (arc_columns a.from.now a.letter.now a.to.now)
 
 abbrev columns-cleared : tie.After-clear → Lent
 columns-cleared c =
     let l = c.clear.new in
     let a = l.1.1.1.1.1 in
-    lent (table l.0 l.1.0 l.1.1.0) l.1.1.1.0 l.1.1.1.1.0 (arc-columns a.0 a.1.0 a.1.1.0)
+    lent (table l.0 l.1.0 l.1.1.0) l.1.1.1.0 l.1.1.1.1.0 (arc_columns a.0 a.1.0 a.1.1.0)
 
 abbrev columns-made : tie.After-make → Lent
 columns-made c =
     let l = c.make.new.1.1.1.1 in
     let a = l.1.1.1.1.1 in
-    lent (table l.0 l.1.0 l.1.1.0) l.1.1.1.0 l.1.1.1.1.0 (arc-columns a.0 a.1.0 a.1.1.0)
+    lent (table l.0 l.1.0 l.1.1.0) l.1.1.1.0 l.1.1.1.1.0 (arc_columns a.0 a.1.0 a.1.1.0)
 
 abbrev cleared : tie.After-rooms → tie.After-clear
 cleared c = clearing (checking c)
@@ -147,18 +147,18 @@ all-cleared : (c : tie.After-clear) → Cleared (columns-first (entry c)) (colum
 all-cleared c = c.clear.ensures
 
 -- The columns are even, and the table is not refused.
-fine : (c : tie.After-rooms) → (even (columns-first (entry (cleared c))) ≡ true) × (table-refusal (given (entry (cleared c))) ≡ success)
-unfolding even even-arcs
+fine : (c : tie.After-rooms) → (even (columns-first (entry (cleared c))) ≡ true) × (table_refusal (given (entry (cleared c))) ≡ success)
+unfolding even even_arcs
 fine c = let e = entry (cleared c) in passed (given e) (columns-first e) (checking c).checked.ensures c.before.enum_told.given.1
 
 blank : (c : tie.After-rooms) → Blank c.rooms.result (columns-cleared (cleared c))
-blank c = cleared-blank (fine c).0 (all-cleared (cleared c)) c.rooms.ensures
+blank c = cleared_blank (fine c).0 (all-cleared (cleared c)) c.rooms.ensures
 
 lengths-made : (c : tie.After-make) → SameLengths (columns-first (entry (cleared (sized c.before)))) (columns-made c)
 lengths-made c =
     let k = c.make.auto.1.1.1.1 in
     let a = k.1.1.1.1.1 in
-    lengths-after (cleared-lengths (all-cleared (cleared (sized c.before))))
+    lengths_after (cleared_lengths (all-cleared (cleared (sized c.before))))
     (record {
       kind = k.0;
       left = k.1.0;
@@ -174,17 +174,17 @@ short c = made (exceeded c).before.before
 
 columns-last : (c : tie.After-clear2) → Cleared (columns-first (entry (cleared (sized (short c).before))))
     (let l = c.clear2.new in let a = l.1.1.1.1.1 in
-    lent (table l.0 l.1.0 l.1.1.0) l.1.1.1.0 l.1.1.1.1.0 (arc-columns a.0 a.1.0 a.1.1.0))
-columns-last c = cleared-as (lengths-made (short c)) c.clear2.ensures
+    lent (table l.0 l.1.0 l.1.1.0) l.1.1.1.0 l.1.1.1.1.0 (arc_columns a.0 a.1.0 a.1.1.0))
+columns-last c = cleared_as (lengths-made (short c)) c.clear2.ensures
 
 -- ---- The needs
 
 refused : tie.Need-returns
-unfolding even even-arcs
+unfolding even even_arcs
 refused c =
     let number = c.before in
     let check = number.before.before in
-    built-refused check.checked.ensures number.number.given.1 (all-cleared (clearing check))
+    built_refused check.checked.ensures number.number.given.1 (all-cleared (clearing check))
 
 make-requires : tie.Need-make-requires
 make-requires c κs = (ap (λ (r : Refusal). r.number) (fine (sized c)).1, blank (sized c))
@@ -194,15 +194,15 @@ built c =
     let counts = c.before in
     let make = made counts.before.before in
     let rooms = sized make.before in
-    let r = reaches-as counts.counts.given.1 make.make.ensures in
-    built-whole _ (fine rooms) (all-cleared (cleared rooms)) rooms.rooms.ensures r.goes.0 r.goes.1 (lengths-made make)
+    let r = reaches_as counts.counts.given.1 make.make.ensures in
+    built_whole _ (fine rooms) (all-cleared (cleared rooms)) rooms.rooms.ensures r.goes.0 r.goes.1 (lengths-made make)
 
 room_small : tie.Need-returns-3
 room_small c =
     let make = short (last c) in
     let rooms = sized make.before in
-    let r = reaches-as (exceeded (last c)).enum-told2.given.1 make.make.ensures in
-    built-short _ (fine rooms) (all-cleared (cleared rooms)) rooms.rooms.ensures r.goes (columns-last (last c))
+    let r = reaches_as (exceeded (last c)).enum-told2.given.1 make.make.ensures in
+    built_short _ (fine rooms) (all-cleared (cleared rooms)) rooms.rooms.ensures r.goes (columns-last (last c))
 
 pub build-spec : {M : Type 1} → statement M
 build-spec =
@@ -214,7 +214,7 @@ build-spec =
     (λ c. (lengths-made (made c.before.before.before)).expression) (λ c. (lengths-made (made c.before.before.before)).accepting)
     (λ c. (lengths-made (made c.before.before.before)).arcs.from) (λ c. (lengths-made (made c.before.before.before)).arcs.letter)
     (λ c. (lengths-made (made c.before.before.before)).arcs.to) built (λ c. search rules) (λ c κs. search rules)
-    (λ c. (cleared-lengths (columns-last (last c))).kind) (λ c. (cleared-lengths (columns-last (last c))).left)
-    (λ c. (cleared-lengths (columns-last (last c))).right) (λ c. (cleared-lengths (columns-last (last c))).expression)
-    (λ c. (cleared-lengths (columns-last (last c))).accepting) (λ c. (cleared-lengths (columns-last (last c))).arcs.from)
-    (λ c. (cleared-lengths (columns-last (last c))).arcs.letter) (λ c. (cleared-lengths (columns-last (last c))).arcs.to) room_small)
+    (λ c. (cleared_lengths (columns-last (last c))).kind) (λ c. (cleared_lengths (columns-last (last c))).left)
+    (λ c. (cleared_lengths (columns-last (last c))).right) (λ c. (cleared_lengths (columns-last (last c))).expression)
+    (λ c. (cleared_lengths (columns-last (last c))).accepting) (λ c. (cleared_lengths (columns-last (last c))).arcs.from)
+    (λ c. (cleared_lengths (columns-last (last c))).arcs.letter) (λ c. (cleared_lengths (columns-last (last c))).arcs.to) room_small)

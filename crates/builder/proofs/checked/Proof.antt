@@ -8,8 +8,8 @@ use Rattle.builder.proofs.checked.Tie as tie
 told : tie.Need-returns
 told c = rw c.before.if1.true c.check.ensures
 
-columns-differ : tie.Need-returns-2
-columns-differ c = rw c.if1.false (record { is = refl; fine = λ z. absurd (omega arith) })
+columns_differ : tie.Need-returns-2
+columns_differ c = rw c.if1.false (record { is = refl; fine = λ z. absurd (omega arith) })
 
 pub checked-spec : {M : Type 1} → statement M
-checked-spec = tie.close (tie.spec (λ c κs. search rules) told columns-differ)
+checked-spec = tie.close (tie.spec (λ c κs. search rules) told columns_differ)

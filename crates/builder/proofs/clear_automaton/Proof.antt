@@ -1,6 +1,6 @@
 -- `clear_automaton` meets its contract: each column is what its own call leaves.
 use borrow.Author.Rules.{rules}
-use Rattle.theory.specs.Arcs.{arc-columns}
+use Rattle.theory.specs.Arcs.{arc_columns}
 use Rattle.builder.proofs.clear_automaton.Statement.{statement}
 use Rattle.builder.proofs.clear_automaton.Tie as tie
 
@@ -28,7 +28,7 @@ returns c =
       expression.clear16.ensures,
       (
         accepting.clear8.ensures,
-        λ i. arc-columns (from.clear162.ensures i) (letter.clear82.ensures i) (to.clear163.ensures i),
+        λ i. arc_columns (from.clear162.ensures i) (letter.clear82.ensures i) (to.clear163.ensures i),
       ),
     )
 

@@ -2,8 +2,8 @@
 use borrow.Author.Rules.{rules}
 use native.Mathlib.Omega.{arith}
 use mathlib.Core.Path.{◌∙◌}
-use Rattle.host.proofs.Storing.{no-counts, three-told}
-use Rattle.host.proofs.Hosting.{hosted-few, hosted, built-as, builds-place}
+use Rattle.host.proofs.Storing.{no_counts, three_told}
+use Rattle.host.proofs.Hosting.{hosted_few, hosted, built_as, builds_place}
 use Rattle.host.proofs.gumpaleri_build.Statement.{statement}
 use Rattle.host.proofs.gumpaleri_build.Tie as tie
 
@@ -58,10 +58,10 @@ few : tie.Need-returns
 few c =
     let r = c.before.before in
     let a = cleared r.before in
-    hosted-few (omega (arith, (short a).if1.taken)) a.clear.ensures (omega (arith, r.refused.ensures.0)) r.refused.ensures.1
+    hosted_few (omega (arith, (short a).if1.taken)) a.clear.ensures (omega (arith, r.refused.ensures.0)) r.refused.ensures.1
 
 place-fits : tie.Need-refused-requires-2
-place-fits c κs = let n = c.before.before in omega (arith, builds-place (called n.before.before).build.ensures n.number.given.1)
+place-fits c κs = let n = c.before.before in omega (arith, builds_place (called n.before.before).build.ensures n.number.given.1)
 
 refused : tie.Need-returns-2
 refused c =
@@ -69,7 +69,7 @@ refused c =
     let n = r.before.before.before in
     let a = called n.before.before in
     let l = (enough a).if1.left in
-    hosted l _ (built-as a.build.ensures n.number.given.1) (omega (arith, r.refused2.ensures.0)) (r.refused2.ensures.1 ∙ no-counts _ l)
+    hosted l _ (built_as a.build.ensures n.number.given.1) (omega (arith, r.refused2.ensures.0)) (r.refused2.ensures.1 ∙ no_counts _ l)
 
 built : tie.Need-returns-3
 built c =
@@ -78,8 +78,8 @@ built c =
     let n = k.before in
     let a = called n.before.before in
     let l = (enough a).if1.left in
-    hosted l _ (built-as a.build.ensures n.states.given.1) (omega (arith, r.told.ensures.0))
-    (r.told.ensures.1 ∙ three-told _ l (omega arith) (omega arith) (omega arith))
+    hosted l _ (built_as a.build.ensures n.states.given.1) (omega (arith, r.told.ensures.0))
+    (r.told.ensures.1 ∙ three_told _ l (omega arith) (omega arith) (omega arith))
 
 pub gumpaleri-build-spec : {M : Type 1} → statement M
 gumpaleri-build-spec =

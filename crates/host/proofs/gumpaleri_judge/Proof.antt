@@ -2,8 +2,8 @@
 use borrow.Author.Rules.{rules}
 use native.Mathlib.Omega.{arith}
 use mathlib.Core.Path.{◌∙◌}
-use Rattle.host.proofs.Storing.{no-counts, three-told}
-use Rattle.host.proofs.Hosting.{hosted-few, hosted, judged-as}
+use Rattle.host.proofs.Storing.{no_counts, three_told}
+use Rattle.host.proofs.Hosting.{hosted_few, hosted, judged_as}
 use Rattle.host.proofs.gumpaleri_judge.Statement.{statement}
 use Rattle.host.proofs.gumpaleri_judge.Tie as tie
 
@@ -27,7 +27,7 @@ few : tie.Need-returns
 few c =
     let r = c.before.before in
     let a = cleared r.before in
-    hosted-few (omega (arith, (short a).if1.taken)) a.clear.ensures (omega (arith, r.refused.ensures.0)) r.refused.ensures.1
+    hosted_few (omega (arith, (short a).if1.taken)) a.clear.ensures (omega (arith, r.refused.ensures.0)) r.refused.ensures.1
 
 refused : tie.Need-returns-2
 refused c =
@@ -35,7 +35,7 @@ refused c =
     let n = r.before.before.before in
     let a = called n.before.before in
     let l = (enough a).if1.left in
-    hosted l _ (judged-as a.judge.ensures n.number.given.1) (omega (arith, r.refused2.ensures.0)) (r.refused2.ensures.1 ∙ no-counts _ l)
+    hosted l _ (judged_as a.judge.ensures n.number.given.1) (omega (arith, r.refused2.ensures.0)) (r.refused2.ensures.1 ∙ no_counts _ l)
 
 accepted : tie.Need-returns-3
 accepted c =
@@ -44,8 +44,8 @@ accepted c =
     let n = k.before in
     let a = called n.before.before in
     let l = (enough a).if1.left in
-    hosted l _ (judged-as a.judge.ensures n.live.given.1) (omega (arith, r.told.ensures.0))
-    (r.told.ensures.1 ∙ three-told _ l (omega arith) (omega arith) (omega arith))
+    hosted l _ (judged_as a.judge.ensures n.live.given.1) (omega (arith, r.told.ensures.0))
+    (r.told.ensures.1 ∙ three_told _ l (omega arith) (omega arith) (omega arith))
 
 unfinished : tie.Need-returns-4
 unfinished c =
@@ -54,8 +54,8 @@ unfinished c =
     let n = k.before in
     let a = called n.before.before in
     let l = (enough a).if1.left in
-    hosted l _ (judged-as a.judge.ensures n.live2.given.1) (omega (arith, r.told2.ensures.0))
-    (r.told2.ensures.1 ∙ three-told _ l (omega arith) (omega arith) (omega arith))
+    hosted l _ (judged_as a.judge.ensures n.live2.given.1) (omega (arith, r.told2.ensures.0))
+    (r.told2.ensures.1 ∙ three_told _ l (omega arith) (omega arith) (omega arith))
 
 wrong : tie.Need-returns-5
 wrong c =
@@ -64,8 +64,8 @@ wrong c =
     let n = k.before in
     let a = called n.before.before in
     let l = (enough a).if1.left in
-    hosted l _ (judged-as a.judge.ensures n.place.given.1) (omega (arith, r.told3.ensures.0))
-    (r.told3.ensures.1 ∙ three-told _ l (omega arith) (omega arith) (omega arith))
+    hosted l _ (judged_as a.judge.ensures n.place.given.1) (omega (arith, r.told3.ensures.0))
+    (r.told3.ensures.1 ∙ three_told _ l (omega arith) (omega arith) (omega arith))
 
 pub gumpaleri-judge-spec : {M : Type 1} → statement M
 gumpaleri-judge-spec =

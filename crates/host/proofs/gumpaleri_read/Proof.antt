@@ -2,8 +2,8 @@
 use borrow.Author.Rules.{rules}
 use native.Mathlib.Omega.{arith}
 use mathlib.Core.Path.{◌∙◌}
-use Rattle.host.proofs.Storing.{no-count, one_told}
-use Rattle.host.proofs.Hosting.{hosted-few, hosted, read_as, reads-place}
+use Rattle.host.proofs.Storing.{no_count, one_told}
+use Rattle.host.proofs.Hosting.{hosted_few, hosted, read_as, reads_place}
 use Rattle.host.proofs.gumpaleri_read.Statement.{statement}
 use Rattle.host.proofs.gumpaleri_read.Tie as tie
 
@@ -30,10 +30,10 @@ few : tie.Need-returns
 few c =
     let r = c.before.before in
     let a = cleared r.before in
-    hosted-few (omega (arith, (short a).if1.taken)) a.clear-table.ensures (omega (arith, r.refused.ensures.0)) r.refused.ensures.1
+    hosted_few (omega (arith, (short a).if1.taken)) a.clear-table.ensures (omega (arith, r.refused.ensures.0)) r.refused.ensures.1
 
 place-fits : tie.Need-refused-requires-2
-place-fits c κs = let n = c.before.before in omega (arith, reads-place (called n.before.before).read.ensures n.number.given.1)
+place-fits c κs = let n = c.before.before in omega (arith, reads_place (called n.before.before).read.ensures n.number.given.1)
 
 unread : tie.Need-returns-2
 unread c =
@@ -42,7 +42,7 @@ unread c =
     let a = called n.before.before in
     let l = (enough a).if1.left in
     hosted l _ (read_as a.read.ensures n.number.given.1) (omega (arith, r.refused2.ensures.0))
-    (r.refused2.ensures.1 ∙ no-count _ l ∙ one_told _ l (omega arith))
+    (r.refused2.ensures.1 ∙ no_count _ l ∙ one_told _ l (omega arith))
 
 read : tie.Need-returns-3
 read c =

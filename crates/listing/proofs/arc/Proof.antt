@@ -4,7 +4,7 @@ use Prim.Native.Nat.{◌<◌}
 use native.Mathlib.Omega.{arith}
 use Rattle.theory.specs.Lines.{space, newline}
 use Rattle.lines.proofs.Putting.{put_then}
-use Rattle.listing.proofs.Bytes.{short-number, arc-line-short}
+use Rattle.listing.proofs.Bytes.{short_number, arc_line_short}
 use Rattle.listing.proofs.arc.Statement.{statement}
 use Rattle.listing.proofs.arc.Tie as tie
 
@@ -23,7 +23,7 @@ to-put c = c.before.before.before
 
 from-asked : tie.Need-number-requires
 from-asked c κs =
-    let s = c.before.before in omega (arith, short-number s.args.from space (omega (arith, s.requires.1)), s.requires.0)
+    let s = c.before.before in omega (arith, short_number s.args.from space (omega (arith, s.requires.1)), s.requires.0)
 
 to-asked : tie.Need-number-requires-2
 to-asked c κs =
@@ -31,8 +31,8 @@ to-asked c κs =
     let s = start f in
     omega (
       arith,
-      short-number s.args.from space (omega (arith, s.pre.1)),
-      short-number s.args.to space (omega (arith, s.pre.2)),
+      short_number s.args.from space (omega (arith, s.pre.1)),
+      short_number s.args.to space (omega (arith, s.pre.2)),
       f.number.ensures.count,
       f.number.kept.0,
       s.pre.0,
@@ -45,9 +45,9 @@ letter-asked c κs =
     let s = start f in
     omega (
       arith,
-      short-number s.args.from space (omega (arith, s.pre.1)),
-      short-number s.args.to space (omega (arith, s.pre.2)),
-      short-number s.args.letter newline (omega (arith, s.fits.letter)),
+      short_number s.args.from space (omega (arith, s.pre.1)),
+      short_number s.args.to space (omega (arith, s.pre.2)),
+      short_number s.args.letter newline (omega (arith, s.fits.letter)),
       f.number.ensures.count,
       f.number.kept.0,
       t.number2.ensures.count,
@@ -63,7 +63,7 @@ returns c =
     let s = start f in
     let line = put_then (put_then f.number.ensures t.number2.ensures) l.number3.ensures in
     let letter-fits : s.args.letter < 1000 = omega (arith, s.fits.letter) in
-    let short = arc-line-short s.args.from s.args.to s.args.letter (omega (arith, s.pre.1)) (omega (arith, s.pre.2)) letter-fits in
+    let short = arc_line_short s.args.from s.args.to s.args.letter (omega (arith, s.pre.1)) (omega (arith, s.pre.2)) letter-fits in
     (line, omega (arith, line.count))
 
 pub arc-spec : {M : Type 1} → statement M

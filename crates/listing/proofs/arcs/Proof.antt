@@ -3,16 +3,16 @@ use borrow.Author.Rules.{rules}
 use Prim.Native.Nat.{◌*◌, ◌-◌, ◌≤◌}
 use native.Mathlib.Omega.{arith}
 use lib.ListN.{length}
-use Rattle.theory.specs.Arcs.{arc-columns}
+use Rattle.theory.specs.Arcs.{arc_columns}
 use Rattle.lines.specs.Output.{Put}
-use Rattle.listing.specs.Listing.{arc-bytes, arc-lines}
-use Rattle.listing.proofs.Listed.{put-no-arcs, put-arc, all-arcs}
+use Rattle.listing.specs.Listing.{arc_bytes, arc_lines}
+use Rattle.listing.proofs.Listed.{put_no_arcs, put_arc, all_arcs}
 use Rattle.listing.proofs.arcs.Statement.{statement}
 use Rattle.listing.proofs.arcs.Tie as tie
 
 abbrev invariant-loop : tie.invariant-loop
 invariant-loop block₀ count from letter to used₀ i₀ block used i =
-    Put (arc-lines (arc-columns from letter to) i) block₀ 0 block used × (used ≤ i * arc-bytes) × (i ≤ count)
+    Put (arc_lines (arc_columns from letter to) i) block₀ 0 block used × (used ≤ i * arc_bytes) × (i ≤ count)
 
 abbrev decreases-loop : tie.decreases-loop
 decreases-loop block₀ count from letter to used₀ i₀ block used i = count - i
@@ -45,15 +45,15 @@ loop-again : tie.Need-loop-preserved invariant-loop decreases-loop
 loop-again c =
     let arc = (called c).arc in
     let t = turn (called c).before.before in
-    (put-arc _ _ t.before.loop.inv.0 arc.ensures.0, omega (arith, arc.ensures.1, t.before.loop.inv.1), omega (arith, t.loop-test.taken))
+    (put_arc _ _ t.before.loop.inv.0 arc.ensures.0, omega (arith, arc.ensures.1, t.before.loop.inv.1), omega (arith, t.loop-test.taken))
 
 returns : tie.Need-returns invariant-loop decreases-loop
 returns c =
-    let inv = c.before.loop.invariant in (all-arcs _ (omega (arith, inv.2)) inv.0, omega (arith, inv.1, inv.2))
+    let inv = c.before.loop.invariant in (all_arcs _ (omega (arith, inv.2)) inv.0, omega (arith, inv.1, inv.2))
 
 pub arcs-spec : {M : Type 1} → statement M
 arcs-spec =
     tie.close
-    (tie.spec invariant-loop decreases-loop (λ c. (put-no-arcs _, omega arith, omega arith)) (λ c. omega arith) (λ c. omega arith) (λ c. omega arith) (λ c. omega arith)
+    (tie.spec invariant-loop decreases-loop (λ c. (put_no_arcs _, omega arith, omega arith)) (λ c. omega arith) (λ c. omega arith) (λ c. omega arith) (λ c. omega arith)
     (λ c. omega arith) arc-asked (λ c. omega arith) (λ c. omega arith) loop-again
     (λ c. c.before.loop.invariant.0.same_length) returns)

@@ -2,8 +2,8 @@
 use borrow.Author.Rules.{rules}
 use native.Mathlib.Omega.{arith}
 use mathlib.Core.Path.{refl}
-use Rattle.site.proofs.Judging.{made_as, built-from}
-use Rattle.listing.proofs.Printing.{lists-refusal, lists-automaton, few-states, few-arcs, narrow}
+use Rattle.site.proofs.Judging.{made_as, built_from}
+use Rattle.listing.proofs.Printing.{lists_refusal, lists_automaton, few_states, few_arcs, narrow}
 use Rattle.listing.proofs.list.Statement.{statement}
 use Rattle.listing.proofs.list.Tie as tie
 
@@ -32,7 +32,7 @@ refused c =
     let told = put.before.before.before in
     let home = told.before.before in
     let a = made home.before.before.before in
-    lists-refusal (made_as told.number.given.1 a.automaton.ensures) put.refused.ensures.0
+    lists_refusal (made_as told.number.given.1 a.automaton.ensures) put.refused.ensures.0
 
 arcs-asked : tie.Need-arcs-requires
 arcs-asked c κs =
@@ -40,8 +40,8 @@ arcs-asked c κs =
     let home = case.before.before in
     let a = made home.before.before.before in
     let lent = a.before.before.before in
-    let b = built-from (made_as case.state-count.given.1 a.automaton.ensures) refl in
-    let few = few-arcs b in
+    let b = built_from (made_as case.state_count.given.1 a.automaton.ensures) refl in
+    let few = few_arcs b in
     let kept = a.automaton.kept.1.1 in (
       (
         omega (arith, (entry lent.before).requires),
@@ -60,9 +60,9 @@ states-asked c κs =
     let home = case.before.before in
     let a = made home.before.before.before in
     let lent = a.before.before.before in
-    let b = built-from (made_as case.state-count.given.1 a.automaton.ensures) refl in
-    let few = few-states b in
-    let arcs = few-arcs b in (
+    let b = built_from (made_as case.state_count.given.1 a.automaton.ensures) refl in
+    let few = few_states b in
+    let arcs = few_arcs b in (
       omega (arith, put.arcs.ensures.1, put.arcs.kept.0, (entry lent.before).requires),
       omega (arith, a.automaton.kept.1.0),
       few,
@@ -76,8 +76,8 @@ listed c =
     let case = built lending.before.before.before in
     let home = case.before.before in
     let a = made home.before.before.before in
-    let h = made_as case.state-count.given.1 a.automaton.ensures in
-    lists-automaton h (built-from h refl) put.arcs.ensures.0 last.states.ensures.0
+    let h = made_as case.state_count.given.1 a.automaton.ensures in
+    lists_automaton h (built_from h refl) put.arcs.ensures.0 last.states.ensures.0
 
 pub list-spec : {M : Type 1} → statement M
 list-spec =

@@ -3,18 +3,18 @@ use borrow.Author.Rules.{rules}
 use mathlib.Core.Path.{sym, subst}
 use lib.Seq.{length-take-le}
 use Rattle.theory.specs.Grammar.{Text}
-use Rattle.lines.proofs.Putting.{put-within}
-use Rattle.lines.proofs.WholeLine.{within-column}
+use Rattle.lines.proofs.Putting.{put_within}
+use Rattle.lines.proofs.WholeLine.{within_column}
 use Rattle.listing.specs.Listing.{Prints, Printed}
 use Rattle.listing.proofs.Printing.{prints}
 use Rattle.listing.proofs.print.Statement.{statement}
 use Rattle.listing.proofs.print.Tie as tie
 
 text-asked : tie.Need-bytes-requires
-text-asked c κs = within-column c.before.args.line c.before.requires
+text-asked c κs = within_column c.before.args.line c.before.requires
 
 fits : tie.Need-array-share-prefix-block
-fits c = put-within c.before.list.ensures.put
+fits c = put_within c.before.list.ensures.put
 
 asked : tie.Need-hand-on-requires
 asked c κs = let h = c.before.before.list.ensures in subst (Printed _) (sym h.put.stands) h.printed

@@ -2,10 +2,10 @@
 use borrow.Author.Rules.{rules}
 use native.Mathlib.Omega.{arith}
 use mathlib.Core.Path.{◌≡◌, sym, ◌∙◌}
-use Rattle.theory.specs.Arcs.{arc-columns}
-use Rattle.theory.specs.Record.{Handed, handed, Work, work, matcher-refusal}
-use Rattle.matcher.proofs.Walk.{SameWork, cleared-same, checked-kept}
-use Rattle.matcher.proofs.Judging.{ready, formed, checked, judged-refused, judged-given}
+use Rattle.theory.specs.Arcs.{arc_columns}
+use Rattle.theory.specs.Record.{Handed, handed, Work, work, matcher_refusal}
+use Rattle.matcher.proofs.Walk.{SameWork, cleared_same, checked_kept}
+use Rattle.matcher.proofs.Judging.{ready, formed, checked, judged_refused, judged_given}
 use Rattle.matcher.proofs.judge.Statement.{statement}
 use Rattle.matcher.proofs.judge.Tie as tie
 
@@ -54,7 +54,7 @@ emptied-last c = c.before.before.before
 
 abbrev automaton : tie.Start → Handed
 automaton c =
-    handed c.args.states c.args.accepting.now c.args.arcs (arc-columns c.args.from.now c.args.letter.now c.args.to.now)
+    handed c.args.states c.args.accepting.now c.args.arcs (arc_columns c.args.from.now c.args.letter.now c.args.to.now)
 
 abbrev work-first : tie.Start → Work
 work-first c = work c.args.current.now c.args.next.now
@@ -62,7 +62,7 @@ work-first c = work c.args.current.now c.args.next.now
 abbrev begin : tie.Else1 → tie.Start
 begin c = entry (refused (clearing c.before))
 
-nothing-due : (c : tie.Else1) → (matcher-refusal (automaton (begin c)) (work-first (begin c))).number ≡ 0
+nothing-due : (c : tie.Else1) → (matcher_refusal (automaton (begin c)) (work-first (begin c))).number ≡ 0
 nothing-due c = sym (refused (clearing c.before)).refusal.ensures ∙ c.if1.false
 
 -- ---- The lengths of the work columns
@@ -88,19 +88,19 @@ refusal-given : tie.Need-returns
 refusal-given c =
     let clear = clearing c.before in
     let e = entry (refused clear) in
-    record { answers = judged-refused (automaton e) (work-first e) _ (refused clear).refusal.ensures c.if1.true; cleared = clear.clear.ensures }
+    record { answers = judged_refused (automaton e) (work-first e) _ (refused clear).refusal.ensures c.if1.true; cleared = clear.clear.ensures }
 
 mark-requires : tie.Need-mark-requires
 mark-requires c κs =
     let h = checked (automaton (begin c.before)) _ (nothing-due c.before) in
-    omega (arith, h.some-state, h.enough.current, (clearing c.before.before).clear.auto.0)
+    omega (arith, h.some_state, h.enough.current, (clearing c.before.before).clear.auto.0)
 
 walk-requires : tie.Need-walk-requires
 walk-requires c κs =
     let mark = (marked c).before in
     let at = allowed mark in
     let blank = (clearing at.before).clear.ensures in
-    (checked-kept (checked (automaton (begin at)) _ (nothing-due at)) (same-marked mark), ready (work-first (begin at)) blank mark.mark.ensures)
+    (checked_kept (checked (automaton (begin at)) _ (nothing-due at)) (same-marked mark), ready (work-first (begin at)) blank mark.mark.ensures)
 
 answer-requires : tie.Need-answer-requires
 answer-requires c κs =
@@ -108,7 +108,7 @@ answer-requires c κs =
     let h = automaton (begin at) in
     let enough = (checked h _ (nothing-due at)).enough in
     let good = formed h _ (nothing-due at) in
-    (good.few-states, good.accepting-long, omega (arith, enough.current, (same-walked (walking c)).current))
+    (good.few_states, good.accepting_long, omega (arith, enough.current, (same-walked (walking c)).current))
 
 verdict-given : tie.Need-returns-2
 verdict-given c =
@@ -118,9 +118,9 @@ verdict-given c =
     let at = allowed (starting walk) in
     let h = automaton (begin at) in
     record {
-      answers = judged-given h (work-first (begin at)) _ (refused (clearing at.before)).refusal.ensures at.if1.left
+      answers = judged_given h (work-first (begin at)) _ (refused (clearing at.before)).refusal.ensures at.if1.left
           (answer.answer.ensures h.arcs _ (checked h _ (nothing-due at)) _ walk.walk.ensures);
-      cleared = clear.clear2.ensures ∙ cleared-same (same-walked walk);
+      cleared = clear.clear2.ensures ∙ cleared_same (same-walked walk);
     }
 
 pub judge-spec : {M : Type 1} → statement M

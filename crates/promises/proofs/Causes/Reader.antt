@@ -4,24 +4,24 @@ use native.Mathlib.Omega.{arith}
 use mathlib.Core.Path.{◌≡◌, refl, sym, ap, ◌∙◌}
 use mathlib.Core.List.{[], append-nil}
 use Rattle.theory.specs.Expression.{Expression}
-use Rattle.theory.specs.Refusal.{Refusal, record-long}
+use Rattle.theory.specs.Refusal.{Refusal, record_long}
 use Rattle.theory.specs.Table.{Table}
 use Rattle.theory.specs.Grammar.{Text, Reading, read, refused, Passed, Reads, whole, broken, stopped, deep, many}
 use Rattle.theory.specs.Read.{Read, Entered, Due, differ, long, short, entered}
-use Rattle.theory.proofs.Grammar.Count.{made-written}
+use Rattle.theory.proofs.Grammar.Count.{made_written}
 use Rattle.theory.proofs.Rows.{read_fits}
-use Rattle.theory.proofs.Due.{due-once, left_by, leaves}
+use Rattle.theory.proofs.Due.{due_once, left_by, leaves}
 use Rattle.promises.specs.Reader as Causes
-use Rattle.promises.specs.Reader.{Legible, Written, ReaderCause, ReaderMeets, entry-room}
+use Rattle.promises.specs.Reader.{Legible, Written, ReaderCause, ReaderMeets, entry_room}
 use Rattle.promises.proofs.Causes.Exactly.{exactly}
 
 module _ {text : Text} {t : Table} where
-  pub reader-caused : {q : Reading} → Due text t q → ReaderCause text t (entered q).refusal
-  reader-caused (differ n) = Causes.differ n
-  reader-caused (long p q l) = Causes.long (p, q) l
-  reader-caused (short p q l h) = go (record { even = (p, q); short = l }) h
+  pub reader_caused : {q : Reading} → Due text t q → ReaderCause text t (entered q).refusal
+  reader_caused (differ n) = Causes.differ n
+  reader_caused (long p q l) = Causes.long (p, q) l
+  reader_caused (short p q l h) = go (record { even = (p, q); short = l }) h
     where
-      go : {q : Reading} → Legible text t → Reads (entry-room t) text q → ReaderCause text t (entered q).refusal
+      go : {q : Reading} → Legible text t → Reads (entry_room t) text q → ReaderCause text t (entered q).refusal
       go v (whole e w x b) =
           Causes.none e (record { legible = v; writable = w; spelled = x; shallow = b.shallow; fits = read_fits (whole e w x b) })
       go v (broken p l b n) = Causes.broken p (record { legible = v; inside = l; passed = b }) n
@@ -29,7 +29,7 @@ module _ {text : Text} {t : Table} where
       go v (deep p l b a d) = Causes.deep p (record { legible = v; inside = l; passed = b }) a d
       go v (many p l b a d) = Causes.many p (record { legible = v; inside = l; passed = b }) a d
 
-  begun : {q : Reading} → Legible text t → Reads (entry-room t) text q → Due text t q
+  begun : {q : Reading} → Legible text t → Reads (entry_room t) text q → Due text t q
   begun v h = short v.even.0 v.even.1 v.short h
 
   -- The reading that a cause makes due.
@@ -42,44 +42,44 @@ module _ {text : Text} {t : Table} where
   dues (Causes.many p b a d) = (_, begun b.legible (many p b.inside b.passed a d), refl)
   dues (Causes.none e w) = (_, begun w.legible (whole e w.writable w.spelled passed), refl)
     where
-      passed : Passed (entry-room t) text
+      passed : Passed (entry_room t) text
       passed = record {
         viable = ([], (e, w.writable, w.spelled ∙ sym (append-nil text)));
         shallow = w.shallow;
-        fits = rw (← w.spelled, made-written e w.writable) w.fits;
+        fits = rw (← w.spelled, made_written e w.writable) w.fits;
       }
 
   -- A text that is written within the limits is the one that is read.
-  pub written-due : {e : Expression} → Written text t e → Due text t (read e)
+  pub written_due : {e : Expression} → Written text t e → Due text t (read e)
   unfolding dues
-  written-due {e} w = (dues (Causes.none e w)).1
+  written_due {e} w = (dues (Causes.none e w)).1
 
-  pub due-written : {e : Expression} → Due text t (read e) → Written text t e
-  due-written (short p q l (whole e w x b)) =
+  pub due_written : {e : Expression} → Due text t (read e) → Written text t e
+  due_written (short p q l (whole e w x b)) =
       record { legible = record { even = (p, q); short = l }; writable = w; spelled = x; shallow = b.shallow; fits = read_fits (whole e w x b) }
 
-  pub reader-due : {q : Reading} {r : Refusal} → Due text t q → ReaderCause text t r → (entered q).refusal ≡ r
-  reader-due d c = let (q, d', e) = dues c in ap (λ q. (entered q).refusal) (due-once d d') ∙ e
+  pub reader_due : {q : Reading} {r : Refusal} → Due text t q → ReaderCause text t r → (entered q).refusal ≡ r
+  reader_due d c = let (q, d', e) = dues c in ap (λ q. (entered q).refusal) (due_once d d') ∙ e
 
-  pub reader-numbered : {r : Refusal} → ReaderCause text t r → r.number < record-long
-  reader-numbered (Causes.differ n) = omega arith
-  reader-numbered (Causes.long v l) = omega arith
-  reader-numbered (Causes.broken p b n) = omega arith
-  reader-numbered (Causes.stopped v b n) = omega arith
-  reader-numbered (Causes.deep p b a d) = omega arith
-  reader-numbered (Causes.many p b a d) = omega arith
-  reader-numbered (Causes.none e w) = omega arith
+  pub reader_numbered : {r : Refusal} → ReaderCause text t r → r.number < record_long
+  reader_numbered (Causes.differ n) = omega arith
+  reader_numbered (Causes.long v l) = omega arith
+  reader_numbered (Causes.broken p b n) = omega arith
+  reader_numbered (Causes.stopped v b n) = omega arith
+  reader_numbered (Causes.deep p b a d) = omega arith
+  reader_numbered (Causes.many p b a d) = omega arith
+  reader_numbered (Causes.none e w) = omega arith
 
 -- ---- The demand
 
-refused-so : (q : Reading) → ¬ ((entered q).refusal.number ≡ 0) → (r : Refusal) × (q ≡ refused r)
-refused-so (read e) n = absurd (n refl)
-refused-so (refused r) n = (r, refl)
+refused_so : (q : Reading) → ¬ ((entered q).refusal.number ≡ 0) → (r : Refusal) × (q ≡ refused r)
+refused_so (read e) n = absurd (n refl)
+refused_so (refused r) n = (r, refl)
 
-pub reader-meets : {text : Text} {t : Table} {answer : Entered} {t' : Table} → Read text t answer t' → ReaderMeets text t answer t'
-reader-meets {text} {t} {answer} h = record {
-  exact = exactly (ReaderCause text t) same (reader-caused h.due) (λ r c. reader-due h.due c);
-  numbered = rw same (reader-numbered (reader-caused h.due));
+pub reader_meets : {text : Text} {t : Table} {answer : Entered} {t' : Table} → Read text t answer t' → ReaderMeets text t answer t'
+reader_meets {text} {t} {answer} h = record {
+  exact = exactly (ReaderCause text t) same (reader_caused h.due) (λ r c. reader_due h.due c);
+  numbered = rw same (reader_numbered (reader_caused h.due));
   count = λ n. ap (λ (a : Entered). a.entries) h.answers ∙ ap (λ (q : Reading). (entered q).entries) (so n).1;
   columns = λ n. leaves h ∙ ap (left_by t) (so n).1;
 }
@@ -88,4 +88,4 @@ reader-meets {text} {t} {answer} h = record {
     same = ap (λ (a : Entered). a.refusal) h.answers
 
     so : ¬ (answer.refusal.number ≡ 0) → (r : Refusal) × (h.reading ≡ refused r)
-    so n = refused-so h.reading (λ z. n (ap (λ (r : Refusal). r.number) same ∙ z))
+    so n = refused_so h.reading (λ z. n (ap (λ (r : Refusal). r.number) same ∙ z))

@@ -3,7 +3,7 @@ use borrow.Author.Rules.{rules}
 use native.Mathlib.Omega.{arith}
 use lib.ListN.{length}
 use Rattle.theory.specs.Table.{Table, table}
-use Rattle.reader.proofs.Laid.{left-by-call}
+use Rattle.reader.proofs.Laid.{left_by_call}
 use Rattle.reader.proofs.Whole as whole
 use Rattle.reader.proofs.limited.Statement.{statement}
 use Rattle.reader.proofs.limited.Tie as tie
@@ -39,14 +39,14 @@ whole-home c = c.before.before.before
 lengths_differ : tie.Need-returns
 lengths_differ c =
     let called = cleared c.before in
-    whole.due-differ (start called).args.text.now (lent (start called)) (left-by-call called.clear-table.last) called.clear-table.ensures
-    (whole.not-both _ _ _ c.if1.true)
+    whole.due_differ (start called).args.text.now (lent (start called)) (left_by_call called.clear-table.last) called.clear-table.ensures
+    (whole.not_both _ _ _ c.if1.true)
 
 too_long : tie.Need-returns-2
 too_long c =
     let called = cleared c.before.before in
     let equal = whole.both_equal _ _ _ c.before.if1.false in
-    whole.due-long (start called).args.text.now (lent (start called)) (left-by-call called.clear-table.last) called.clear-table.ensures
+    whole.due_long (start called).args.text.now (lent (start called)) (left_by_call called.clear-table.last) called.clear-table.ensures
     equal.0 equal.1 c.if2.true
 
 whole-asked : tie.Need-whole-requires
@@ -63,9 +63,9 @@ text-read c =
     let room = limiting read.before in
     let called = cleared room.before.before.before in
     let equal = whole.both_equal _ _ _ room.before.before.if1.left in
-    whole.limited (start called).args.text.now (lent (start called)) (left-by-call called.clear-table.last) called.clear-table.ensures
+    whole.limited (start called).args.text.now (lent (start called)) (left_by_call called.clear-table.last) called.clear-table.ensures
     equal.0 equal.1
-    room.before.if2.left room.smaller.result room.smaller.ensures read.whole.result (left-by-call read.whole.last.1.1)
+    room.before.if2.left room.smaller.result room.smaller.ensures read.whole.result (left_by_call read.whole.last.1.1)
     read.whole.ensures
 
 pub limited-spec : {M : Type 1} → statement M

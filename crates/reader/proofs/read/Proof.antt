@@ -1,8 +1,8 @@
 -- `read` answers what `limited` found, and clears the columns where it is a refusal.
 use borrow.Author.Rules.{rules}
 use Rattle.theory.specs.Table.{Table, table}
-use Rattle.reader.proofs.Laid.{left-by-call}
-use Rattle.reader.proofs.Whole.{read-answers, refused-answers}
+use Rattle.reader.proofs.Laid.{left_by_call}
+use Rattle.reader.proofs.Whole.{read_answers, refused_answers}
 use Rattle.reader.proofs.read.Statement.{statement}
 use Rattle.reader.proofs.read.Tie as tie
 
@@ -40,7 +40,7 @@ clearing c = c.before.before.before
 text-read : tie.Need-returns
 text-read c =
     let called = limited c.before.before.before in
-    read-answers (start called).args.text.now (lent (start called)) (left-by-call called.limited.last.1) called.limited.result
+    read_answers (start called).args.text.now (lent (start called)) (left_by_call called.limited.last.1) called.limited.result
     called.limited.ensures _ _ c.before.found.given.1
 
 text-refused : tie.Need-returns-2
@@ -49,8 +49,8 @@ text-refused c =
     let refusal = (clearing (cleared c)).before.before in
     let called = limited refusal.before.before in
     let kept = called.limited.kept.1 in
-    refused-answers (start called).args.text.now (lent (start called)) (left-by-call called.limited.last.1) called.limited.result
-    called.limited.ensures _ _ refusal.found2.given.1 (left-by-call zeros.last) zeros.ensures kept.0 kept.1.0 kept.1.1.0
+    refused_answers (start called).args.text.now (lent (start called)) (left_by_call called.limited.last.1) called.limited.result
+    called.limited.ensures _ _ refusal.found2.given.1 (left_by_call zeros.last) zeros.ensures kept.0 kept.1.0 kept.1.1.0
 
 pub read_spec : {M : Type 1} → statement M
 read_spec =

@@ -1,8 +1,8 @@
 -- `automaton_of` has the site make what the line's bytes write.
 use borrow.Author.Rules.{rules}
 use mathlib.Core.Path.{refl}
-use Rattle.lines.proofs.WholeLine.{within-column}
-use Rattle.site.proofs.Judging.{built-from, sited}
+use Rattle.lines.proofs.WholeLine.{within_column}
+use Rattle.site.proofs.Judging.{built_from, sited}
 use Rattle.records.proofs.Starting.{made_of}
 use Rattle.records.proofs.automaton_of.Statement.{statement}
 use Rattle.records.proofs.automaton_of.Tie as tie
@@ -27,7 +27,7 @@ made c = c.before.before
 -- ---- The needs. Six steps lead past the columns of arcs, in whatever order they are lent.
 
 text-asked : tie.Need-bytes-requires
-text-asked c κs = within-column (start c).args.line (start c).requires.0.0
+text-asked c κs = within_column (start c).args.line (start c).requires.0.0
 
 refused : tie.Need-returns
 refused c =
@@ -45,7 +45,7 @@ built c =
     let half = home.before.before.before in
     let a = made half.before.before.before in
     let m = made_of (text a).bytes.ensures told.states.given.1 a.automaton.ensures in
-    record { begins = (_, m, refl, refl, refl, sited (built-from m refl)) }
+    record { begins = (_, m, refl, refl, refl, sited (built_from m refl)) }
 
 pub automaton-of-spec : {M : Type 1} → statement M
 automaton-of-spec =

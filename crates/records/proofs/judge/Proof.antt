@@ -2,8 +2,8 @@
 use borrow.Author.Rules.{rules}
 use native.Mathlib.Omega.{arith}
 use mathlib.Core.Path.{refl, ◌∙◌}
-use Rattle.records.proofs.Going.{Going, long-enough}
-use Rattle.records.proofs.Turning.{turned_as, within-still, inside-still}
+use Rattle.records.proofs.Going.{Going, long_enough}
+use Rattle.records.proofs.Turning.{turned_as, within_still, inside_still}
 use Rattle.records.proofs.judge.Statement.{statement}
 use Rattle.records.proofs.judge.Tie as tie
 
@@ -40,11 +40,11 @@ called c = (homes c).before.before.before
 loop-holds : tie.Need-loop-init invariant-loop decreases-loop
 loop-holds c = record {
   inside = (start c).requires.1;
-  taken-length = refl;
-  column-length = refl;
-  current-length = refl;
-  next-length = refl;
-  block-length = refl;
+  taken_length = refl;
+  column_length = refl;
+  current_length = refl;
+  next_length = refl;
+  block_length = refl;
   within = omega arith;
 }
 
@@ -52,7 +52,7 @@ asked : tie.Need-answer-next-requires invariant-loop decreases-loop
 asked c κs =
     let g = (turn c).loop.invariant in
     let x = (start (turn c).before).pre.0 in
-    (x, (long-enough g x, ((g.inside, g.column-length), (g.within, omega (arith, g.block-length)))))
+    (x, (long_enough g x, ((g.inside, g.column_length), (g.within, omega (arith, g.block_length)))))
 
 loop-again : tie.Need-loop-preserved invariant-loop decreases-loop
 loop-again c =
@@ -63,13 +63,13 @@ loop-again c =
     let lent = automaton.1.1.1.1.1.1 in
     let t = (turned_as c.before.after.given.1 k.answer-next.ensures).turns in
     record {
-      inside = inside-still t.0 t.1 t.2;
-      taken-length = kept.0 ∙ g.taken-length;
-      column-length = kept.1.1.0 ∙ g.column-length;
-      current-length = lent.0 ∙ g.current-length;
-      next-length = lent.1.0 ∙ g.next-length;
-      block-length = lent.1.1.0 ∙ g.block-length;
-      within = within-still lent.1.1.0 t.1;
+      inside = inside_still t.0 t.1 t.2;
+      taken_length = kept.0 ∙ g.taken_length;
+      column_length = kept.1.1.0 ∙ g.column_length;
+      current_length = lent.0 ∙ g.current_length;
+      next_length = lent.1.0 ∙ g.next_length;
+      block_length = lent.1.1.0 ∙ g.block_length;
+      within = within_still lent.1.1.0 t.1;
     }
 
 pub judge-spec : {M : Type 1} → statement M

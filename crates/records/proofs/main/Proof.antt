@@ -1,6 +1,6 @@
 -- `main` takes the expression line, and goes on after it.
 use borrow.Author.Rules.{rules}
-use Rattle.lines.proofs.Taking.{inside-start}
+use Rattle.lines.proofs.Taking.{inside_start}
 use Rattle.lines.proofs.WholeLine.{took, whole}
 use Rattle.records.proofs.main.Statement.{statement}
 use Rattle.records.proofs.main.Tie as tie
@@ -16,7 +16,7 @@ no_line : tie.Need-run-requires
 no_line c κs =
     let home = c.before.before.before in
     let t = (taken home.before.before).take-line in
-    (whole _ t.ensures t.kept.1.1.0, inside-start c.start2.ensures)
+    (whole _ t.ensures t.kept.1.1.0, inside_start c.start2.ensures)
 
 ended : tie.Need-run-requires-2
 ended c κs =
@@ -35,7 +35,7 @@ full c κs =
 pub main_spec : {M : Type 1} → statement M
 main_spec =
     tie.close
-    (tie.spec (λ c. search rules) (λ c κs. search rules) (λ c. search rules) (λ c κs. inside-start c.before.start.ensures)
+    (tie.spec (λ c. search rules) (λ c κs. search rules) (λ c. search rules) (λ c κs. inside_start c.before.start.ensures)
     (λ c. search rules) (λ c. search rules) (λ c. search rules) (λ c κs. search rules) no_line
     (λ c. search rules) (λ c. search rules) (λ c. search rules) ended
     (λ c. search rules) (λ c. search rules) (λ c. search rules) full

@@ -3,9 +3,9 @@ use borrow.Author.Rules.{rules}
 use native.Mathlib.Omega.{arith}
 use mathlib.Core.Path.{refl, sym, subst}
 use lib.Seq.{length-take-le}
-use Rattle.lines.proofs.Putting.{put-within}
-use Rattle.lines.proofs.WholeLine.{within-column}
-use Rattle.records.proofs.Starting.{starts-as, sited-as}
+use Rattle.lines.proofs.Putting.{put_within}
+use Rattle.lines.proofs.WholeLine.{within_column}
+use Rattle.records.proofs.Starting.{starts_as, sited_as}
 use Rattle.records.proofs.run.Statement.{statement}
 use Rattle.records.proofs.run.Tie as tie
 
@@ -30,7 +30,7 @@ refused c =
     let told = c.before in
     let home = told.before.before.before in
     let a = made home.before.before.before in
-    put-within (starts-as told.used.given.1 a.automaton-of.ensures).begins.2
+    put_within (starts_as told.used.given.1 a.automaton-of.ensures).begins.2
 
 rooms-asked : tie.Need-automaton-of-requires
 rooms-asked c κs = (search rules, record { states = refl; from = refl; letter = refl; to = refl })
@@ -42,7 +42,7 @@ text-asked c κs =
     let a = made home.before.before.before in
     let lent = a.before.before in
     let s = start lent.before.before.before in
-    within-column s.args.line s.pre.0
+    within_column s.args.line s.pre.0
 
 judge-asked : tie.Need-judge-requires
 judge-asked c κs =
@@ -52,7 +52,7 @@ judge-asked c κs =
     let a = made home.before.before.before in
     let lent = a.before.before in
     let s = start lent.before.before.before in
-    (sited-as t.bytes.ensures (starts-as told.states.given.1 a.automaton-of.ensures).begins.5, s.pre.1)
+    (sited_as t.bytes.ensures (starts_as told.states.given.1 a.automaton-of.ensures).begins.5, s.pre.1)
 
 pub run_spec : {M : Type 1} → statement M
 run_spec =

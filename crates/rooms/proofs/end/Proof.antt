@@ -4,8 +4,8 @@ use mathlib.Core.Path.{refl}
 use lib.ListN.{length}
 use Rattle.lines.specs.Input.{TookWhole}
 use Rattle.lines.specs.Turn.{Left}
-use Rattle.lines.proofs.Waiting.{asks-as, unasked}
-use Rattle.lines.proofs.WholeLine.{took, failed-waits}
+use Rattle.lines.proofs.Waiting.{asks_as, unasked}
+use Rattle.lines.proofs.WholeLine.{took, failed_waits}
 use Rattle.rooms.specs.Reported.{no_more, too_many}
 use Rattle.rooms.proofs.Answering.{all_shown}
 use Rattle.rooms.proofs.end.Statement.{statement}
@@ -40,7 +40,7 @@ Asked c =
     × TookWhole s.taken.now s.input c.line.given.0.0 a.ask.last.0 a.ask.last.1.1.0
 
 asks : (c : tie.After-line) → Asked c
-asks c = asks-as c.line.given.1 (asked c).ask.ensures
+asks c = asks_as c.line.given.1 (asked c).ask.ensures
 
 -- ---- The needs
 
@@ -55,13 +55,13 @@ none c =
     let p = c.before.before in
     let e = p.before.before in
     let k = asks e.before.before.before in
-    (_, k.0, no_more (took e.enum-told2.given.1 k.1).holds p.totals-line.ensures.0)
+    (_, k.0, no_more (took e.enum-told2.given.1 k.1).holds p.totals_line.ensures.0)
 
 failed : tie.Need-returns-3
 failed c =
     let k = asks c.before.before.before in
     let t = took c.enum-told3.given.1 k.1 in
-    (t.holds, all_shown k.0 (failed-waits t), refl)
+    (t.holds, all_shown k.0 (failed_waits t), refl)
 
 ended : tie.Need-returns-4
 ended c =

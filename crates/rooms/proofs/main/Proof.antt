@@ -5,7 +5,7 @@ use native.Mathlib.Omega.{arith}
 use mathlib.Core.Path.{refl, sym, subst}
 use lib.ListN.{length, take}
 use lib.Seq.{length-take-le}
-use Rattle.lines.proofs.Taking.{inside-start}
+use Rattle.lines.proofs.Taking.{inside_start}
 use Rattle.rooms.specs.declared.Reported.{Reported}
 use Rattle.rooms.specs.Reported.{Last, Reports}
 use Rattle.rooms.proofs.main.Statement.{statement}
@@ -22,7 +22,7 @@ reported c = (homes c).before.before
 -- ---- The needs
 
 asked : tie.Need-report-requires
-asked c κs = (inside-start c.before.before.start.ensures, refl, omega arith)
+asked c κs = (inside_start c.before.before.start.ensures, refl, omega arith)
 
 -- What the block holds ends a report.
 ends : (c : tie.After-used) → let block = (reported c).report.new.1.1.1.0 in let used = c.used.given.0.0 in

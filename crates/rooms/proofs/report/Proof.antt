@@ -4,9 +4,9 @@ use Prim.Native.Nat.{◌-◌}
 use native.Mathlib.Omega.{arith}
 use mathlib.Core.Path.{◌≡◌, refl, ◌∙◌}
 use lib.ListN.{length}
-use Rattle.theory.specs.Limit.{most-lines}
+use Rattle.theory.specs.Limit.{most_lines}
 use Rattle.site.specs.Totals.{values}
-use Rattle.rooms.proofs.Going.{Going, going-none, turned_as, fits-still, going_more, put-from, whole-report, reported}
+use Rattle.rooms.proofs.Going.{Going, going_none, turned_as, fits_still, going_more, put_from, whole_report, reported}
 use Rattle.rooms.proofs.report.Statement.{statement}
 use Rattle.rooms.proofs.report.Tie as tie
 
@@ -16,7 +16,7 @@ invariant-loop taken₀ column₀ block₀ input₀ totals₀ used₀ lines₀ t
     × (length taken ≡ length taken₀) × (length column ≡ length column₀) × (length block ≡ length block₀)
 
 abbrev decreases-loop : tie.decreases-loop
-decreases-loop taken₀ column₀ block₀ input₀ totals₀ used₀ lines₀ taken column block input totals used lines = most-lines - lines
+decreases-loop taken₀ column₀ block₀ input₀ totals₀ used₀ lines₀ taken column block input totals used lines = most_lines - lines
 
 -- ---- The places: the entry, the loop's head, the call of `answer_next`
 
@@ -53,7 +53,7 @@ closing c = (last-lent c).before
 -- ---- The needs
 
 loop-holds : tie.Need-loop-init invariant-loop decreases-loop
-loop-holds c = let s = c.before.before.before.before in (going-none s.requires.0 c.none.ensures, refl, refl, refl)
+loop-holds c = let s = c.before.before.before.before in (going_none s.requires.0 c.none.ensures, refl, refl, refl)
 
 asked : tie.Need-answer-next-requires invariant-loop decreases-loop
 asked c κs =
@@ -61,7 +61,7 @@ asked c κs =
     let at = t.before in
     let inv = at.loop.invariant in
     let pre = (start at).requires in
-    ((inv.0.inside, inv.2 ∙ pre.1), ((inv.0.within, omega (arith, inv.3, pre.2)), fits-still inv.0 (omega (arith, t.loop-test.true))))
+    ((inv.0.inside, inv.2 ∙ pre.1), ((inv.0.within, omega (arith, inv.3, pre.2)), fits_still inv.0 (omega (arith, t.loop-test.true))))
 
 loop-again : tie.Need-loop-preserved invariant-loop decreases-loop
 loop-again c =
@@ -86,7 +86,7 @@ no_more c =
     let e = p.before.before in
     let a = called e.before.before in
     let h = (turned_as e.enum_told.given.1 a.answer-next.ensures).turns in
-    whole-report (turn a).before.loop.inv.0 h.1 h.0 (put-from h.2 p.totals-line.ensures.0)
+    whole_report (turn a).before.loop.inv.0 h.1 h.0 (put_from h.2 p.totals_line.ensures.0)
 
 end-asked : tie.Need-end-requires invariant-loop decreases-loop
 end-asked c κs =
@@ -95,8 +95,8 @@ end-asked c κs =
     let pre = (start at).requires in
     ((inv.0.inside, inv.2 ∙ pre.1), (inv.0.within, omega (arith, inv.3, pre.2)))
 
-at-end : tie.Need-returns-4 invariant-loop decreases-loop
-at-end c =
+at_end : tie.Need-returns-4 invariant-loop decreases-loop
+at_end c =
     let e = ending c in
     let l = closing e in
     reported l.before.loop.inv.0 e.end.result _ _ (omega (arith, l.before.loop.inv.0.few)) e.end.ensures
@@ -109,4 +109,4 @@ report-spec =
     (λ c. search rules) last-asked (λ c. search rules) (λ c. search rules) (λ c. search rules) no_more
     (λ c. search rules) (λ c. search rules) (λ c. search rules) (λ c. search rules) (λ c. search rules)
     (λ c. search rules) (λ c. search rules) (λ c. search rules) (λ c. search rules) (λ c. search rules)
-    end-asked (λ c. search rules) (λ c. search rules) (λ c. search rules) at-end)
+    end-asked (λ c. search rules) (λ c. search rules) (λ c. search rules) at_end)

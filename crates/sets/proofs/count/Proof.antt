@@ -6,15 +6,15 @@ use mathlib.Core.Path.{◌≡◌, sym, ap, ◌∙◌}
 use mathlib.Core.List.{List}
 use lib.ListN.{get_or}
 use lib.Count.{ones as ones-of, ones-le}
-use Rattle.theory.specs.Below.{count-below}
-use Rattle.theory.proofs.Below.{at-end}
+use Rattle.theory.specs.Below.{count_below}
+use Rattle.theory.proofs.Below.{at_end}
 use Rattle.sets.specs.Bits.{bit}
-use Rattle.sets.proofs.Digits.{count-block}
+use Rattle.sets.proofs.Digits.{count_block}
 use Rattle.sets.proofs.count.Statement.{statement}
 use Rattle.sets.proofs.count.Tie as tie
 
 abbrev invariant-loop : tie.invariant-loop
-invariant-loop n words ones₀ i₀ ones i = (i ≤ n) × (ones ≤ i * 64) × (ones ≡ count-below (i * 64) (bit words))
+invariant-loop n words ones₀ i₀ ones i = (i ≤ n) × (ones ≤ i * 64) × (ones ≡ count_below (i * 64) (bit words))
 
 abbrev decreases-loop : tie.decreases-loop
 decreases-loop n words ones₀ i₀ ones i = n - i
@@ -39,7 +39,7 @@ ones-few c = ones-le 64 (word c) (word_fits c)
 -- ---- The needs
 
 loop-holds : tie.Need-loop-init invariant-loop decreases-loop
-unfolding count-below
+unfolding count_below
 loop-holds c = search rules
 
 cast-ones : tie.Need-overflow-cast-ones invariant-loop decreases-loop
@@ -52,13 +52,13 @@ loop-again : tie.Need-loop-preserved invariant-loop decreases-loop
 loop-again c = (
   omega arith,
   omega (arith, ones-few c),
-  ap (λ (n : ℕ). n + ones-of (word c)) (head c).loop.invariant.2 ∙ sym (count-block (given (head c)) (head c).loop.i (word_fits c)),
+  ap (λ (n : ℕ). n + ones-of (word c)) (head c).loop.invariant.2 ∙ sym (count_block (given (head c)) (head c).loop.i (word_fits c)),
 )
 
 returns : tie.Need-returns invariant-loop decreases-loop
 returns c =
     let at = c.before in
-    at-end (λ (i : ℕ). count-below (i * 64) (bit (given at))) at.loop.invariant.2 at.loop.invariant.0 c.loop-test.false
+    at_end (λ (i : ℕ). count_below (i * 64) (bit (given at))) at.loop.invariant.2 at.loop.invariant.0 c.loop-test.false
 
 pub count_spec : {M : Type 1} → statement M
 count_spec =

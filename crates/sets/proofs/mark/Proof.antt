@@ -8,7 +8,7 @@ use lib.ListN.{get_or, set}
 use lib.Bits.{bit_or}
 use lib.Pow.{pow-lt}
 use Rattle.sets.specs.Bits.{bit}
-use Rattle.sets.proofs.Digits.{bit-mark}
+use Rattle.sets.proofs.Digits.{bit_mark}
 use Rattle.sets.proofs.mark.Statement.{statement}
 use Rattle.sets.proofs.mark.Tie as tie
 
@@ -20,7 +20,7 @@ returns c = λ t.
     let words = c.before.args.words.now in
     let number = c.before.args.number in
     ap (λ (digit : ℕ). bit (set words (number / 64) (bit_or (get_or words (number / 64) 0) digit)) t) (one_shifted (number % 64) (omega arith))
-    ∙ bit-mark words number c.before.requires t
+    ∙ bit_mark words number c.before.requires t
 
 pub mark_spec : {M : Type 1} → statement M
 mark_spec =

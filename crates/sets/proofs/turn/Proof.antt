@@ -2,7 +2,7 @@
 use borrow.Author.Rules.{rules}
 use Prim.Native.Nat.{◌≤◌, ◌-◌}
 use native.Mathlib.Omega.{arith}
-use Rattle.sets.proofs.Turned.{Turned, turned_none, turned_more, turned-end}
+use Rattle.sets.proofs.Turned.{Turned, turned_none, turned_more, turned_end}
 use Rattle.sets.proofs.turn.Statement.{statement}
 use Rattle.sets.proofs.turn.Tie as tie
 
@@ -20,13 +20,13 @@ loop-again c =
     let at = c.before.before.loop in
     let r = at.invariant.1 in (
       omega arith,
-      turned_more r (omega (arith, r.current-length)) (omega (arith, r.next-length)) (omega (arith, c.slice-known.given at.i)),
+      turned_more r (omega (arith, r.current_length)) (omega (arith, r.next_length)) (omega (arith, c.slice-known.given at.i)),
     )
 
 returns : tie.Need-returns invariant-loop decreases-loop
 returns c =
-    let r = turned-end c.before.loop.invariant.1 c.before.loop.invariant.0 c.loop-test.false in
-    (r.handed, (r.cleared, r.set-so-far))
+    let r = turned_end c.before.loop.invariant.1 c.before.loop.invariant.0 c.loop-test.false in
+    (r.handed, (r.cleared, r.set_so_far))
 
 pub turn_spec : {M : Type 1} → statement M
 turn_spec =

@@ -10,8 +10,8 @@ use Rattle.reader.specs.declared.Reading.{Reading}
 use Rattle.reader.specs.declared.Reading.TheVariants.{Read as IsRead}
 use Rattle.builder.specs.Answer.{answer as counted-by}
 use Rattle.builder.specs.declared.Building.{Building}
-use Rattle.site.specs.Site.{entry-columns}
-use Rattle.site.proofs.Making.{within, letters-read, made-unread, made-built, made-refused}
+use Rattle.site.specs.Site.{entry_columns}
+use Rattle.site.proofs.Making.{within, letters_read, made_unread, made_built, made_refused}
 use Rattle.site.proofs.automaton.Statement.{statement}
 use Rattle.site.proofs.automaton.Tie as tie
 
@@ -34,7 +34,7 @@ columns-read c = let last = c.read.new.1 in table last.0 last.1.0 last.1.1.0
 
 -- What `read` owes.
 abbrev owes : tie.After-read → Reading → Type 0
-owes c r = Read (start c).args.text.now entry-columns (entered_by r) (columns-read c)
+owes c r = Read (start c).args.text.now entry_columns (entered_by r) (columns-read c)
 
 -- ---- Where the text is refused
 
@@ -54,7 +54,7 @@ text-refused : tie.Need-returns
 text-refused c =
     let refused = (clearing (cleared c)).before.before.before in
     let r = of-read refused.before.before in
-    made-unread (subst (owes r) refused.number.given.1 r.read.ensures) (cleared c).clear.ensures
+    made_unread (subst (owes r) refused.number.given.1 r.read.ensures) (cleared c).clear.ensures
 
 -- ---- Where it is read
 
@@ -95,13 +95,13 @@ counted-as {g} {c} {c'} e b = subst (λ (r : Building). Built g c (counted-by r)
 room-refused : tie.Need-returns-2
 room-refused c =
     let b = built c.before.before.before in
-    made-refused (entered (counting (counted b))) (counted-as c.before.number2.given.1 b.build.ensures)
+    made_refused (entered (counting (counted b))) (counted-as c.before.number2.given.1 b.build.ensures)
 
 text-built : tie.Need-returns-3
 text-built c =
     let b = built c.before.before.before in
     let e = entered (counting (counted b)) in
-    made-built e ((counted b).letters.ensures ∙ letters-read e) (counted-as c.before.states.given.1 b.build.ensures)
+    made_built e ((counted b).letters.ensures ∙ letters_read e) (counted-as c.before.states.given.1 b.build.ensures)
 
 pub automaton-spec : {M : Type 1} → statement M
 automaton-spec =

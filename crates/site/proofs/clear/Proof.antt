@@ -1,6 +1,6 @@
 -- `clear` sets each of the four columns to zero.
 use borrow.Author.Rules.{rules}
-use Rattle.theory.specs.Arcs.{arc-columns}
+use Rattle.theory.specs.Arcs.{arc_columns}
 use Rattle.site.proofs.clear.Statement.{statement}
 use Rattle.site.proofs.clear.Tie as tie
 
@@ -23,7 +23,7 @@ returns c =
     let accepting = (accepting-cleared from).before in
     λ i. record {
       accepting = accepting.clear8.ensures i;
-      arcs = arc-columns (from.clear16.ensures i) (letter.clear82.ensures i) (to.clear162.ensures i);
+      arcs = arc_columns (from.clear16.ensures i) (letter.clear82.ensures i) (to.clear162.ensures i);
     }
 
 pub clear_spec : {M : Type 1} → statement M

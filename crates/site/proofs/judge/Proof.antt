@@ -2,10 +2,10 @@
 use borrow.Author.Rules.{rules}
 use mathlib.Core.Path.{◌≡◌, refl, subst, ◌∙◌}
 use Rattle.theory.specs.Column.{zeros}
-use Rattle.theory.specs.Arcs.{arc-columns}
+use Rattle.theory.specs.Arcs.{arc_columns}
 use Rattle.theory.specs.Record.{work}
 use Rattle.site.proofs.Judging.{made_as}
-use Rattle.site.proofs.Telling.{told-refused, told-settled}
+use Rattle.site.proofs.Telling.{told_refused, told_settled}
 use Rattle.site.proofs.judge.Statement.{statement}
 use Rattle.site.proofs.judge.Tie as tie
 
@@ -33,7 +33,7 @@ refused c =
     let next = c.before.before in
     let current = (current-cleared next).before in
     let n = refusing current in
-    told-refused (made_as n.number.given.1 (made n.before.before).automaton.ensures)
+    told_refused (made_as n.number.given.1 (made n.before.before).automaton.ensures)
     (λ i. work (current.clear64.ensures i) (next.clear642.ensures i))
 
 -- ---- Where it is built: the calls of `matcher::judge` and `settle`
@@ -71,8 +71,8 @@ told c =
     let b = built s in
     let a = (made b.before.before).automaton in
     let kept = a.kept.1 in
-    told-settled (made_as b.states.given.1 a.ensures) refl
-    (λ i. record { accepting = zeros (kept.0 i); arcs = arc-columns (zeros (kept.1.0 i)) (zeros (kept.1.1.0 i)) (zeros (kept.1.1.1.0 i)) })
+    told_settled (made_as b.states.given.1 a.ensures) refl
+    (λ i. record { accepting = zeros (kept.0 i); arcs = arc_columns (zeros (kept.1.0 i)) (zeros (kept.1.1.0 i)) (zeros (kept.1.1.1.0 i)) })
     (judged s).judge.result (judged s).judge.ensures s.settle.ensures
 
 accepting-kept : tie.Need-same-length-7

@@ -5,7 +5,7 @@ use native.Mathlib.Omega.{arith}
 use mathlib.Core.Logic.{⊎_elim}
 use mathlib.Core.Path.{◌≡◌, sym, ap, ◌∙◌}
 use lib.ListN.{length}
-use Rattle.site.proofs.Counting.{lettered, letters-none, letter-more, other-more}
+use Rattle.site.proofs.Counting.{lettered, letters_none, letter_more, other_more}
 use Rattle.site.proofs.letters.Statement.{statement}
 use Rattle.site.proofs.letters.Tie as tie
 
@@ -20,8 +20,8 @@ loop-again c =
     let at = c.before.before.before in
     let kind = at.before.args.kind.now in
     let inv = at.loop.invariant in
-    ⊎_elim (λ w. (w.1 ∙ ap (λ n. n + 1) inv.0 ∙ sym (letter-more kind at.loop.i w.0.taken), omega arith, omega arith))
-    (λ w. (w.1 ∙ inv.0 ∙ sym (other-more kind at.loop.i w.0.left), omega arith, omega arith)) c.if1.branch
+    ⊎_elim (λ w. (w.1 ∙ ap (λ n. n + 1) inv.0 ∙ sym (letter_more kind at.loop.i w.0.taken), omega arith, omega arith))
+    (λ w. (w.1 ∙ inv.0 ∙ sym (other_more kind at.loop.i w.0.left), omega arith, omega arith)) c.if1.branch
 
 returns : tie.Need-returns invariant-loop decreases-loop
 returns c =
@@ -30,5 +30,5 @@ returns c =
 pub letters-spec : {M : Type 1} → statement M
 letters-spec =
     tie.close
-    (tie.spec invariant-loop decreases-loop (λ c. (letters-none c.args.kind.now, omega arith, omega arith)) (λ c. omega arith) (λ c. omega arith)
+    (tie.spec invariant-loop decreases-loop (λ c. (letters_none c.args.kind.now, omega arith, omega arith)) (λ c. omega arith) (λ c. omega arith)
     (λ c. omega arith) (λ c. omega arith) loop-again returns)

@@ -1,6 +1,6 @@
 -- `verdict` hands the site's automaton to the matcher.
 use borrow.Author.Rules.{rules}
-use Rattle.site.proofs.Judging.{judged-over}
+use Rattle.site.proofs.Judging.{judged_over}
 use Rattle.site.proofs.verdict.Statement.{statement}
 use Rattle.site.proofs.verdict.Tie as tie
 
@@ -22,7 +22,7 @@ abbrev home : tie.After-slice-known4 → tie.After-current
 home c = c.before.before.before
 
 returns : tie.Need-returns
-returns c = let called = (home c).before in judged-over (start called).pre.0 (start called).pre.1 called.judge.ensures
+returns c = let called = (home c).before in judged_over (start called).pre.0 (start called).pre.1 called.judge.ensures
 
 pub verdict-spec : {M : Type 1} → statement M
 verdict-spec = tie.close (tie.spec (λ c κs. search rules) (λ c. search rules) (λ c. search rules) returns)

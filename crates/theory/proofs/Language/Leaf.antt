@@ -7,18 +7,18 @@ use lib.Dec.{eqb}
 use borrow.Author.Tests.{eqb-true, eq-eqb}
 use Rattle.theory.specs.Expression.{∅, ε, letter}
 use Rattle.theory.specs.Language.{In}
-use Rattle.theory.proofs.Language.Some.{some-none, some_one, some-cond}
+use Rattle.theory.proofs.Language.Some.{some_none, some_one, some_cond}
 use Rattle.theory.proofs.Language.Step.{Derives}
 
 pub ∅-step : (a : ℕ) → Derives a [] ∅
-∅-step a = record { words = λ w. (some-none (λ m. In m w), absurd) }
+∅-step a = record { words = λ w. (some_none (λ m. In m w), absurd) }
 
-pub ε-step : (a : ℕ) → Derives a [] ε
-ε-step a = record { words = λ w. (λ s. absurd (some-none (λ m. In m w) s), λ e. absurd (cons≢nil e)) }
+pub ε_step : (a : ℕ) → Derives a [] ε
+ε_step a = record { words = λ w. (λ s. absurd (some_none (λ m. In m w) s), λ e. absurd (cons≢nil e)) }
 
-pub letter-step : (a b : ℕ) → Derives a (cond (eqb a b) (ε ∷ []) []) (letter b)
-letter-step a b = record {
+pub letter_step : (a b : ℕ) → Derives a (cond (eqb a b) (ε ∷ []) []) (letter b)
+letter_step a b = record {
   words = λ w.
-      Iff.trans (some-cond (λ m. In m w) (eqb a b) (ε ∷ []))
+      Iff.trans (some_cond (λ m. In m w) (eqb a b) (ε ∷ []))
       (Iff.trans (Iff.and (eqb-true a b, eq-eqb a b) (some_one (λ m. In m w) ε)) (Iff.symm cons-eq-cons));
 }

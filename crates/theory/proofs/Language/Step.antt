@@ -8,8 +8,8 @@ use Rattle.theory.specs.Expression.{Expression, Sign, same}
 use Rattle.theory.specs.Distinct.{distinct}
 use Rattle.theory.specs.Language.{Word, In}
 use Rattle.theory.specs.Derivative.{joined}
-use Rattle.theory.proofs.Language.Some.{Some, some-map, some-distinct}
-use Rattle.theory.proofs.Language.Together.{Together, together-iff, some_left, some_right}
+use Rattle.theory.proofs.Language.Some.{Some, some_map, some_distinct}
+use Rattle.theory.proofs.Language.Together.{Together, together_iff, some_left, some_right}
 
 -- w is in the language of a member of ms.
 abbrev pub InSome : List Expression → Word → Type 0
@@ -19,8 +19,8 @@ InSome ms w = Some (λ m. In m w) ms
 pub record Derives (a : ℕ) (ms : List Expression) (e : Expression) : Type 0 where
   pub words : (w : Word) → InSome ms w ↔ In e (a ∷ w)
 
-pub distinct-step : {a : ℕ} {ms : List Expression} {e : Expression} → Derives a ms e → Derives a (distinct same ms) e
-distinct-step {ms} d = record { words = λ w. Iff.trans (some-distinct (λ m. In m w) same ms) (d.words w) }
+pub distinct_step : {a : ℕ} {ms : List Expression} {e : Expression} → Derives a ms e → Derives a (distinct same ms) e
+distinct_step {ms} d = record { words = λ w. Iff.trans (some_distinct (λ m. In m w) same ms) (d.words w) }
 
 -- For a sign whose joining puts words together by R, the members of a derivative are joined on its own side.
 module _ (s : Sign) (R : Word → Word → Word → Type 0)
@@ -28,11 +28,11 @@ module _ (s : Sign) (R : Word → Word → Word → Type 0)
   pub left_step : {a : ℕ} {ms : List Expression} {x : Expression} → Derives a ms x → (y : Expression) (w : Word)
       → InSome (map (λ m. joined s m y) ms) w ↔ Together R (λ u. In x (a ∷ u)) (In y) w
   left_step {ms} d y w =
-      Iff.trans (some-map (λ m. In m w) (λ m. joined s m y) (λ m. Together R (In m) (In y) w) (λ m. joins m y w) ms)
-      (Iff.trans (some_left R In (In y) ms w) (together-iff R w d.words (λ v. Iff.rfl)))
+      Iff.trans (some_map (λ m. In m w) (λ m. joined s m y) (λ m. Together R (In m) (In y) w) (λ m. joins m y w) ms)
+      (Iff.trans (some_left R In (In y) ms w) (together_iff R w d.words (λ v. Iff.rfl)))
 
-  pub right-step : {a : ℕ} {ms : List Expression} {y : Expression} → (x : Expression) → Derives a ms y → (w : Word)
+  pub right_step : {a : ℕ} {ms : List Expression} {y : Expression} → (x : Expression) → Derives a ms y → (w : Word)
       → InSome (map (λ m. joined s x m) ms) w ↔ Together R (In x) (λ v. In y (a ∷ v)) w
-  right-step {ms} x d w =
-      Iff.trans (some-map (λ m. In m w) (λ m. joined s x m) (λ m. Together R (In x) (In m) w) (λ m. joins x m w) ms)
-      (Iff.trans (some_right R (In x) In ms w) (together-iff R w (λ u. Iff.rfl) d.words))
+  right_step {ms} x d w =
+      Iff.trans (some_map (λ m. In m w) (λ m. joined s x m) (λ m. Together R (In x) (In m) w) (λ m. joins x m w) ms)
+      (Iff.trans (some_right R (In x) In ms w) (together_iff R w (λ u. Iff.rfl) d.words))

@@ -12,32 +12,32 @@ abbrev pub Together : (Word → Word → Word → Type 0) → (Word → Type 0) 
 Together R P Q w = (u : Word) × (v : Word) × P u × Q v × R u v w
 
 module _ (R : Word → Word → Word → Type 0) where
-  pub together-iff : {P P' Q Q' : Word → Type 0} (w : Word) → ((u : Word) → P u ↔ P' u) → ((v : Word) → Q v ↔ Q' v)
+  pub together_iff : {P P' Q Q' : Word → Type 0} (w : Word) → ((u : Word) → P u ↔ P' u) → ((v : Word) → Q v ↔ Q' v)
       → Together R P Q w ↔ Together R P' Q' w
-  together-iff w p q = (
+  together_iff w p q = (
     λ t. (t.0, t.1, (p t.0).0 t.2, (q t.1).0 t.3, t.4),
     λ t. (t.0, t.1, (p t.0).1 t.2, (q t.1).1 t.3, t.4),
   )
 
   -- The empty word is made of two empty words alone, where R says so.
-  pub together-nil : (P Q : Word → Type 0) → ((u v : Word) → R u v [] ↔ ((u ≡ []) × (v ≡ []))) → Together R P Q [] ↔ (P [] × Q [])
-  together-nil P Q r = (
+  pub together_nil : (P Q : Word → Type 0) → ((u v : Word) → R u v [] ↔ ((u ≡ []) × (v ≡ []))) → Together R P Q [] ↔ (P [] × Q [])
+  together_nil P Q r = (
     λ t. let e = (r t.0 t.1).0 t.4 in (subst P e.0 t.2, subst Q e.1 t.3),
     λ t. ([], [], t.0, t.1, (r [] []).1 (refl, refl)),
   )
 
   -- So a test for the empty word on either side makes one for both together.
-  pub together-test : (P Q : Word → Type 0) → ((u v : Word) → R u v [] ↔ ((u ≡ []) × (v ≡ []))) → (b c : Bool) → (b ≡ true) ↔ P [] → (c ≡ true) ↔ Q []
+  pub together_test : (P Q : Word → Type 0) → ((u v : Word) → R u v [] ↔ ((u ≡ []) × (v ≡ []))) → (b c : Bool) → (b ≡ true) ↔ P [] → (c ≡ true) ↔ Q []
       → ((b && c) ≡ true) ↔ Together R P Q []
-  together-test P Q r b c p q = Iff.trans (and-eq-true_iff b c) (Iff.trans (Iff.and p q) (Iff.symm (together-nil P Q r)))
+  together_test P Q r b c p q = Iff.trans (and-eq-true_iff b c) (Iff.trans (Iff.and p q) (Iff.symm (together_nil P Q r)))
 
   -- The language of the empty word alone is a unit, where the empty word is one for R.
-  pub together-unit-right : (P : Word → Type 0) (w : Word) → ((u : Word) → R u [] w ↔ (w ≡ u)) → Together R P (λ v. v ≡ []) w ↔ P w
-  together-unit-right P w r =
+  pub together_unit_right : (P : Word → Type 0) (w : Word) → ((u : Word) → R u [] w ↔ (w ≡ u)) → Together R P (λ v. v ≡ []) w ↔ P w
+  together_unit_right P w r =
       (λ t. subst P (sym ((r t.0).0 (subst (λ v. R t.0 v w) t.3 t.4))) t.2, λ p. (w, [], p, refl, (r w).1 refl))
 
-  pub together-unit-left : (Q : Word → Type 0) (w : Word) → ((v : Word) → R [] v w ↔ (w ≡ v)) → Together R (λ u. u ≡ []) Q w ↔ Q w
-  together-unit-left Q w r =
+  pub together_unit_left : (Q : Word → Type 0) (w : Word) → ((v : Word) → R [] v w ↔ (w ≡ v)) → Together R (λ u. u ≡ []) Q w ↔ Q w
+  together_unit_left Q w r =
       (λ t. subst Q (sym ((r t.1).0 (subst (λ u. R u t.1 w) t.2 t.4))) t.3, λ q. ([], w, refl, q, (r w).1 refl))
 
   -- A choice among languages on either side can be made before or after.

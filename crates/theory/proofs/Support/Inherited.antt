@@ -7,7 +7,7 @@ use mathlib.Core.List.Memᴰ
 use mathlib.Core.List.{◌∷◌, map, Memᴰ}
 use Rattle.theory.specs.Expression.{Expression, Sign, ∅, ε, letter, binary, star, union, concatenation, shuffle}
 use Rattle.theory.specs.Derivative.{joined}
-use Rattle.theory.proofs.Support.{followed-by, support, shuffled-of}
+use Rattle.theory.proofs.Support.{followed_by, support, shuffled_of}
 
 pub record Inherited (P : Expression → Expression → Type 0) : Type 0 where
   pub itself : (e : Expression) → P e e
@@ -20,36 +20,36 @@ pub record Inherited (P : Expression → Expression → Type 0) : Type 0 where
 module _ (P : Expression → Expression → Type 0) (i : Inherited P) where
   -- The members are known of x and of y; each sign has its lemma.
   module _ (x y : Expression) (l : (m : Expression) → Memᴰ m (x ∷ support x) → P x m) (r : (m : Expression) → Memᴰ m (y ∷ support y) → P y m) where
-    union-inherited : (m : Expression) → Memᴰ m (support (binary union x y)) → P (binary union x y) m
+    union_inherited : (m : Expression) → Memᴰ m (support (binary union x y)) → P (binary union x y) m
     unfolding support
-    union-inherited m h =
+    union_inherited m h =
         ⊎_elim (λ t. i.left union x y m (l m (Memᴰ.tail t))) (λ t. i.right union x y m (r m (Memᴰ.tail t))) (Memᴰ.append_cases (support x) h)
 
-    concatenation-inherited : (m : Expression) → Memᴰ m (support (binary concatenation x y)) → P (binary concatenation x y) m
+    concatenation_inherited : (m : Expression) → Memᴰ m (support (binary concatenation x y)) → P (binary concatenation x y) m
     unfolding support
-    concatenation-inherited m h =
+    concatenation_inherited m h =
         ⊎_elim
-        (λ t. let f = Memᴰ.of_map (followed-by y) (support x) t in
+        (λ t. let f = Memᴰ.of_map (followed_by y) (support x) t in
         subst (P (binary concatenation x y)) f.2
         (i.both concatenation x y f.0 y (l f.0 (Memᴰ.tail f.1)) (i.itself y) (Memᴰ.cast f.2 h)))
-        (λ t. i.right concatenation x y m (r m (Memᴰ.tail t))) (Memᴰ.append_cases (map (followed-by y) (support x)) h)
+        (λ t. i.right concatenation x y m (r m (Memᴰ.tail t))) (Memᴰ.append_cases (map (followed_by y) (support x)) h)
 
-    shuffle-inherited : (m : Expression) → Memᴰ m (support (binary shuffle x y)) → P (binary shuffle x y) m
+    shuffle_inherited : (m : Expression) → Memᴰ m (support (binary shuffle x y)) → P (binary shuffle x y) m
     unfolding support
-    shuffle-inherited m h =
-        let f = shuffled-of x y (support x) (support y) h in
+    shuffle_inherited m h =
+        let f = shuffled_of x y (support x) (support y) h in
         subst (P (binary shuffle x y)) f.4 (i.both shuffle x y f.0 f.1 (l f.0 f.2) (r f.1 f.3) (Memᴰ.cast f.4 h))
 
-  star-inherited : (x : Expression) → ((m : Expression) → Memᴰ m (x ∷ support x) → P x m) → (m : Expression)
+  star_inherited : (x : Expression) → ((m : Expression) → Memᴰ m (x ∷ support x) → P x m) → (m : Expression)
       → Memᴰ m (support (star x)) → P (star x) m
   unfolding support
-  star-inherited x l m h =
-      let f = Memᴰ.of_map (followed-by (star x)) (support x) h in
+  star_inherited x l m h =
+      let f = Memᴰ.of_map (followed_by (star x)) (support x) h in
       subst (P (star x)) f.2 (i.again x f.0 (l f.0 (Memᴰ.tail f.1)) (Memᴰ.cast f.2 h))
 
-  letter-inherited : (a : ℕ) (m : Expression) → Memᴰ m (support (letter a)) → P (letter a) m
+  letter_inherited : (a : ℕ) (m : Expression) → Memᴰ m (support (letter a)) → P (letter a) m
   unfolding support
-  letter-inherited a m h = subst (P (letter a)) (sym (Memᴰ.eq_of_singleton h)) (i.leaf a)
+  letter_inherited a m h = subst (P (letter a)) (sym (Memᴰ.eq_of_singleton h)) (i.leaf a)
 
   -- The expression itself beside the members of its support.
   beside : (e : Expression) → ((m : Expression) → Memᴰ m (support e) → P e m) → (m : Expression) → Memᴰ m (e ∷ support e) → P e m
@@ -59,8 +59,8 @@ module _ (P : Expression → Expression → Type 0) (i : Inherited P) where
   unfolding support
   inherited ∅ = beside ∅ (λ m h. absurd (Memᴰ.not-nil h))
   inherited ε = beside ε (λ m h. absurd (Memᴰ.not-nil h))
-  inherited (letter a) = beside (letter a) (letter-inherited a)
-  inherited (binary union x y) = beside (binary union x y) (union-inherited x y (inherited x) (inherited y))
-  inherited (binary concatenation x y) = beside (binary concatenation x y) (concatenation-inherited x y (inherited x) (inherited y))
-  inherited (binary shuffle x y) = beside (binary shuffle x y) (shuffle-inherited x y (inherited x) (inherited y))
-  inherited (star x) = beside (star x) (star-inherited x (inherited x))
+  inherited (letter a) = beside (letter a) (letter_inherited a)
+  inherited (binary union x y) = beside (binary union x y) (union_inherited x y (inherited x) (inherited y))
+  inherited (binary concatenation x y) = beside (binary concatenation x y) (concatenation_inherited x y (inherited x) (inherited y))
+  inherited (binary shuffle x y) = beside (binary shuffle x y) (shuffle_inherited x y (inherited x) (inherited y))
+  inherited (star x) = beside (star x) (star_inherited x (inherited x))

@@ -3,7 +3,7 @@ use borrow.Author.Rules.{rules}
 use native.Mathlib.Omega.{arith}
 use mathlib.Core.Path.{◌∙◌, ap}
 use mathlib.Core.Bool.{Bool, cond}
-use Rattle.builder.proofs.Meeting.{row-sound, met-no-arc, met-no-state, met-known, met-new}
+use Rattle.builder.proofs.Meeting.{row_sound, met_no_arc, met_no_state, met_known, met_new}
 use Rattle.builder.proofs.arcs.meet.Statement.{statement}
 use Rattle.builder.proofs.arcs.meet.Tie as tie
 
@@ -41,24 +41,24 @@ stored-new c = (arc-back-new c).before.before.before
 
 -- ---- The needs
 
-no-arc : tie.Need-returns
-no-arc c = let h = (entry c.before).requires in met-no-arc h.0 h.1 _ (omega (arith, c.if1.true))
+no_arc : tie.Need-returns
+no_arc c = let h = (entry c.before).requires in met_no_arc h.0 h.1 _ (omega (arith, c.if1.true))
 
 known-state : tie.Need-returns-2
 known-state c =
     let known = (lending (stored c)).before in
     let find = known.before.before in
     let h = (entry find).pre in
-    met-known h.0 h.1 (omega (arith, known.before.if1.left)) find.find.ensures known.if2.taken (stored c).store.ensures
+    met_known h.0 h.1 (omega (arith, known.before.if1.left)) find.find.ensures known.if2.taken (stored c).store.ensures
 
-no-state : tie.Need-returns-3
-no-state c =
+no_state : tie.Need-returns-3
+no_state c =
     let find = c.before.before.before in
     let h = (entry find).requires in
-    met-no-state h.0 h.1 _ find.find.ensures c.before.if2.false (omega (arith, c.if3.true))
+    met_no_state h.0 h.1 _ find.find.ensures c.before.if2.false (omega (arith, c.if3.true))
 
 row-there : tie.Need-empty-word-requires
-row-there c κs = let h = (entry c.before.before.before).requires in row-sound h.0.progress.rows h.1.row
+row-there c κs = let h = (entry c.before.before.before).requires in row_sound h.0.progress.rows h.1.row
 
 new-state : tie.Need-returns-4
 new-state c =
@@ -66,14 +66,14 @@ new-state c =
     let state = flag.before.before in
     let room = state.before.before in
     let h = (entry room.before).requires in
-    met-new h.0 h.1 (omega (arith, room.if1.left)) room.before.find.ensures state.before.if2.left (omega (arith, state.if3.left)) _
-    (flag.flag.ensures ∙ ap (λ (y : Bool). cond y 1 0) flag.before.empty-word.ensures) (stored-new c).store2.ensures
+    met_new h.0 h.1 (omega (arith, room.if1.left)) room.before.find.ensures state.before.if2.left (omega (arith, state.if3.left)) _
+    (flag.flag.ensures ∙ ap (λ (y : Bool). cond y 1 0) flag.before.empty_word.ensures) (stored-new c).store2.ensures
 
 pub meet-spec : {M : Type 1} → statement M
 meet-spec =
     tie.close
-    (tie.spec (λ c. search rules) (λ c κs. search rules) (λ c. search rules) no-arc (λ c. search rules) (λ c. search rules) (λ c κs. search rules)
-    (λ c. search rules) (λ c. search rules) (λ c. search rules) (λ c. search rules) known-state (λ c. search rules) (λ c. search rules) no-state
+    (tie.spec (λ c. search rules) (λ c κs. search rules) (λ c. search rules) no_arc (λ c. search rules) (λ c. search rules) (λ c κs. search rules)
+    (λ c. search rules) (λ c. search rules) (λ c. search rules) (λ c. search rules) known-state (λ c. search rules) (λ c. search rules) no_state
     (λ c. search rules) (λ c. search rules) (λ c. search rules) row-there (λ c κs. search rules) (λ c. search rules) (λ c. search rules)
     (λ c. search rules) (λ c κs. search rules) (λ c. search rules) (λ c. search rules) (λ c. search rules) (λ c. search rules) (λ c. search rules)
     new-state)

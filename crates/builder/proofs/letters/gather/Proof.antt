@@ -4,7 +4,7 @@ use Prim.Native.Nat.{◌≤◌, ◌-◌}
 use native.Mathlib.Omega.{arith}
 use mathlib.Core.Logic.{⊎_elim}
 use lib.ListN.{length}
-use Rattle.builder.proofs.Marks.{Marked, marked-none, marked_other, marked-far, marked-letter, marked_all, marked-as}
+use Rattle.builder.proofs.Marks.{Marked, marked_none, marked_other, marked_far, marked_letter, marked_all, marked_as}
 use Rattle.builder.proofs.letters.gather.Statement.{statement}
 use Rattle.builder.proofs.letters.gather.Tie as tie
 
@@ -19,7 +19,7 @@ abbrev at-kind : tie.After-shared-slice-known invariant-loop decreases-loop → 
 at-kind c = c.before.before
 
 loop-holds : tie.Need-loop-init invariant-loop decreases-loop
-loop-holds c = (omega arith, marked-none _ _)
+loop-holds c = (omega arith, marked_none _ _)
 
 letter-fits : tie.Need-overflow-cast-l invariant-loop decreases-loop
 letter-fits c = omega (arith, c.shared-slice-known2.given (at-kind c.before.before).loop.i)
@@ -28,8 +28,8 @@ loop-again : tie.Need-loop-preserved invariant-loop decreases-loop
 loop-again c =
     let m = (at-kind c.before).loop.inv.1 in (
       omega arith,
-      ⊎_elim (λ w. marked-as w.3 (marked-letter m w.0.taken w.2.taken))
-          (⊎_elim (λ w. marked-as w.3 (marked-far m w.0.taken w.2.left)) (λ w. marked-as w.1 (marked_other m w.0.left))) c.if1.branch,
+      ⊎_elim (λ w. marked_as w.3 (marked_letter m w.0.taken w.2.taken))
+          (⊎_elim (λ w. marked_as w.3 (marked_far m w.0.taken w.2.left)) (λ w. marked_as w.1 (marked_other m w.0.left))) c.if1.branch,
     )
 
 returns : tie.Need-returns invariant-loop decreases-loop

@@ -3,14 +3,14 @@ use borrow.Author.Rules.{rules}
 use native.Mathlib.Omega.{arith}
 use mathlib.Core.Path.{sym, ◌∙◌, subst}
 use Rattle.theory.specs.Table.{Table, table, tree}
-use Rattle.theory.specs.Arcs.{arc-columns}
+use Rattle.theory.specs.Arcs.{arc_columns}
 use Rattle.theory.specs.Build.{Lent, lent}
-use Rattle.theory.proofs.WellFormed.{well-formed}
+use Rattle.theory.proofs.WellFormed.{well_formed}
 use Rattle.builder.specs.Progress.{Standing, Knows, Reaches}
-use Rattle.builder.proofs.Lengths.{SameLengths, same-arcs}
-use Rattle.builder.proofs.Told.{begun-as}
-use Rattle.builder.proofs.Starting.{standing-root, standing-started}
-use Rattle.builder.proofs.Using.{gathered-knows}
+use Rattle.builder.proofs.Lengths.{SameLengths, same_arcs}
+use Rattle.builder.proofs.Told.{begun_as}
+use Rattle.builder.proofs.Starting.{standing_root, standing_started}
+use Rattle.builder.proofs.Using.{gathered_knows}
 use Rattle.builder.proofs.states.make.Statement.{statement}
 use Rattle.builder.proofs.states.make.Tie as tie
 
@@ -89,7 +89,7 @@ abbrev columns-first : tie.Start → Lent
 columns-first c =
     let a = c.args in
     lent (table a.xkind.now a.xleft.now a.xright.now) a.expression.now a.accepting.now
-    (arc-columns a.from.now a.letter.now a.to.now)
+    (arc_columns a.from.now a.letter.now a.to.now)
 
 abbrev columns-started : tie.After-start → Lent
 columns-started c =
@@ -100,26 +100,26 @@ abbrev columns-filled : tie.After-fill → Lent
 columns-filled c =
     let l = c.fill.new.1.1.1 in
     let a = l.1.1.1.1.1 in
-    lent (table l.0 l.1.0 l.1.1.0) l.1.1.1.0 l.1.1.1.1.0 (arc-columns a.0 a.1.0 a.1.1.0)
+    lent (table l.0 l.1.0 l.1.1.0) l.1.1.1.0 l.1.1.1.1.0 (arc_columns a.0 a.1.0 a.1.1.0)
 
 lengths-started : (c : tie.After-start) → SameLengths (columns-first (entry c)) (columns-started c)
 lengths-started c =
     let kept = c.start.auto.1.1.1.1 in
-    record { kind = kept.0; left = kept.1.0; right = kept.1.1.0; expression = kept.1.1.1.0; accepting = kept.1.1.1.1.0; arcs = same-arcs }
+    record { kind = kept.0; left = kept.1.0; right = kept.1.1.0; expression = kept.1.1.1.0; accepting = kept.1.1.1.1.0; arcs = same_arcs }
 
 -- State 0 stands.
 standing : (c : tie.After-counts)
     → let start = started c.before.before in let columns = columns-started start in
     Standing (tree (given (entry start))) (entry start).args.rooms c.counts.given.0.0 columns.rows columns.expression columns.accepting
-standing c = begun-as _ _ _ _ _ c.counts.given.1 (started c.before.before).start.ensures
+standing c = begun_as _ _ _ _ _ c.counts.given.1 (started c.before.before).start.ensures
 
 -- ---- The needs
 
 no_room : tie.Need-returns
-no_room c = record { goes = begun-as _ _ _ _ _ c.enum_told.given.1 (started c.before.before).start.ensures }
+no_room c = record { goes = begun_as _ _ _ _ _ c.enum_told.given.1 (started c.before.before).start.ensures }
 
 letters-there : tie.Need-gather-requires
-letters-there c κs = omega (arith, (well-formed _ (entry (started c.before.before.before)).requires.0).lengths.0)
+letters-there c κs = omega (arith, (well_formed _ (entry (started c.before.before.before)).requires.0).lengths.0)
 
 fill-requires : tie.Need-fill-requires
 fill-requires c κs =
@@ -127,20 +127,20 @@ fill-requires c κs =
     let start = started (counted gather).before.before in
     let s = standing (counted gather) in
     let g = given (entry start) in (
-      standing-started s (entry start).pre.1 (lengths-started start),
-      subst (Knows gather.gather.result) (sym (standing-root s)) (gathered-knows _ _ g.right gather.gather.result gather.gather.ensures),
+      standing_started s (entry start).pre.1 (lengths-started start),
+      subst (Knows gather.gather.result) (sym (standing_root s)) (gathered_knows _ _ g.right gather.gather.result gather.gather.ensures),
     )
 
 rows-kept : (c : tie.After-fill) → SameLengths (columns-first (entry (started (counted (gathered c.before)).before.before)))
     (columns-started (started (counted (gathered c.before)).before.before))
 rows-kept c = lengths-started (started (counted (gathered c.before)).before.before)
 
-all-met : tie.Need-returns-2
-all-met c =
+all_met : tie.Need-returns-2
+all_met c =
     let fill = filled c in
     let at = counted (gathered fill.before) in
     let rooms = (entry (started at.before.before)).args.rooms in
-    subst (λ e. Reaches e rooms fill.fill.result (columns-filled fill)) (standing-root (standing at)) fill.fill.ensures
+    subst (λ e. Reaches e rooms fill.fill.result (columns-filled fill)) (standing_root (standing at)) fill.fill.ensures
 
 pub make_spec : {M : Type 1} → statement M
 make_spec =
@@ -149,4 +149,4 @@ make_spec =
     (λ c. search rules) (λ c. search rules) no_room letters-there fill-requires (λ c. (filled c).fill.auto.1.1.1.0 ∙ (rows-kept (filled c)).kind)
     (λ c. (filled c).fill.auto.1.1.1.1.0 ∙ (rows-kept (filled c)).left)
     (λ c. (filled c).fill.auto.1.1.1.1.1.0 ∙ (rows-kept (filled c)).right) (λ c. search rules) (λ c. search rules) (λ c. search rules)
-    (λ c. search rules) (λ c. search rules) all-met)
+    (λ c. search rules) (λ c. search rules) all_met)

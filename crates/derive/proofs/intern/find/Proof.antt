@@ -5,7 +5,7 @@ use native.Mathlib.Omega.{arith}
 use mathlib.Core.Path.{sym, ◌∙◌}
 use Rattle.theory.specs.Table.{table}
 use Rattle.columns.specs.Row.{as_row}
-use Rattle.derive.proofs.Finding.{test-told, test-refuted, Passed, passed_none, passed-more}
+use Rattle.derive.proofs.Finding.{test_told, test_refuted, Passed, passed_none, passed_more}
 use Rattle.derive.proofs.intern.find.Statement.{statement}
 use Rattle.derive.proofs.intern.find.Tie as tie
 
@@ -36,7 +36,7 @@ returns c =
     let row = tested c.before in
     record {
       within = omega (arith, row.before.loop-test.taken);
-      found = λ _. sym row.row_at.ensures ∙ test-told (as_row row.row_at.result) _ c.if1.true;
+      found = λ _. sym row.row_at.ensures ∙ test_told (as_row row.row_at.result) _ c.if1.true;
       before = row.before.before.loop.inv.other;
     }
 
@@ -49,7 +49,7 @@ loop-less c = search rules
 loop-again : tie.Need-loop-preserved invariant-loop decreases-loop
 loop-again c =
     let row = tested c.before in
-    passed-more row.before.before.loop.inv (λ q. test-refuted (as_row row.row_at.result) _ c.if1.false (row.row_at.ensures ∙ q))
+    passed_more row.before.before.loop.inv (λ q. test_refuted (as_row row.row_at.result) _ c.if1.false (row.row_at.ensures ∙ q))
 
 returns-2 : tie.Need-returns-2 invariant-loop decreases-loop
 returns-2 c =

@@ -8,8 +8,8 @@ use borrow.Fn.Kinds.{In, Out}
 use borrow.Fn.PlainCycle.{Measures, is, falls, and}
 use Rattle.theory.specs.Table.{table}
 use Rattle.columns.specs.Row.{as_row}
-use Rattle.derive.proofs.Growing.{sound-to-less}
-use Rattle.derive.proofs.Reading.{Read, sign_read, word-leaf, word-star, word-union, word-both}
+use Rattle.derive.proofs.Growing.{sound_to_less}
+use Rattle.derive.proofs.Reading.{Read, sign_read, word_leaf, word_star, word_union, word_both}
 use Rattle.derive.proofs.rows.empty_word.Reads as word
 use Rattle.derive.proofs.rows.empty_word.Kinds as kinds
 use Rattle.derive.proofs.rows.+empty_word.Lts-empty_word as lts
@@ -55,39 +55,39 @@ module _ (t : ℕ) where
   -- ---- The needs
 
   row-at-requires : Here lts.Need-row-at-requires
-  row-at-requires c κs = let s = (entry c).requires.1 in (s.in-kind, s.in_left, s.in_right)
+  row-at-requires c κs = let s = (entry c).requires.1 in (s.in_kind, s.in_left, s.in_right)
 
   empty-word-requires : Here lts.Need-empty-word-requires
   empty-word-requires c κs =
       let p = sign_read (read (named c.before)) c.before.l.given.1 in
       let s = (entry (named c.before).before.before).pre in
-      (omega (arith, p.1, s.0), sound-to-less s.1 p.1)
+      (omega (arith, p.1, s.0), sound_to_less s.1 p.1)
 
   empty-word-requires-2 : Here lts.Need-empty-word-requires-2
   empty-word-requires-2 c κs =
       let p = sign_read (read (named (two c))) (two c).l.given.1 in
       let s = (entry (named (two c)).before.before).pre in
-      (omega (arith, p.2, s.0), sound-to-less s.1 p.2)
+      (omega (arith, p.2, s.0), sound_to_less s.1 p.2)
 
   returns : Here lts.Need-returns
-  returns c = word-leaf (read c.before.before.before) c.before.enum_told.given.1
+  returns c = word_leaf (read c.before.before.before) c.before.enum_told.given.1
 
   returns-2 : Here lts.Need-returns-2
-  returns-2 c = word-star (read c.before.before) c.enum-told2.given.1
+  returns-2 c = word_star (read c.before.before) c.enum-told2.given.1
 
   returns-3 : Here lts.Need-returns-3
   returns-3 c =
       let first = answered c.before in
       let told = two first in
-      ap₂ ◌||◌ first.empty-word.ensures c.before.before.empty-word2.ensures
-      ∙ word-union (read (named told)) told.l.given.1 c.if1.true
+      ap₂ ◌||◌ first.empty_word.ensures c.before.before.empty-word2.ensures
+      ∙ word_union (read (named told)) told.l.given.1 c.if1.true
 
   returns-4 : Here lts.Need-returns-4
   returns-4 c =
       let first = answered c.before in
       let told = two first in
-      ap₂ ◌&&◌ first.empty-word.ensures c.before.before.empty-word2.ensures
-      ∙ word-both (read (named told)) told.l.given.1 c.if1.false
+      ap₂ ◌&&◌ first.empty_word.ensures c.before.before.empty-word2.ensures
+      ∙ word_both (read (named told)) told.l.given.1 c.if1.false
 
 pub +empty-word-spec : {M : Type 1} → statement M
 +empty-word-spec = close μ-word λ t. lts.spec (claims t) (at t) word.Post

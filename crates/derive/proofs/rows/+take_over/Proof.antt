@@ -6,12 +6,12 @@ use native.Mathlib.Omega.{arith}
 use mathlib.Core.Path.{refl, ◌∙◌}
 use borrow.Fn.Kinds.{In, Out}
 use borrow.Fn.PlainCycle.{Measures, is, falls, and}
-use Rattle.theory.specs.Table.{table, of-star}
+use Rattle.theory.specs.Table.{table, of_star}
 use Rattle.columns.specs.Row.{as_row}
-use Rattle.derive.proofs.Coming.{fitted-then}
-use Rattle.derive.proofs.Growing.{sound-to-less}
-use Rattle.derive.proofs.Reading.{Read, leaf-read, star-read, sign_read}
-use Rattle.derive.proofs.Taking.{took, named_small, takes-leaf, takes-star, star-full, left-full, right-full, pair-sound, takes-pair}
+use Rattle.derive.proofs.Coming.{fitted_then}
+use Rattle.derive.proofs.Growing.{sound_to_less}
+use Rattle.derive.proofs.Reading.{Read, leaf_read, star_read, sign_read}
+use Rattle.derive.proofs.Taking.{took, named_small, takes_leaf, takes_star, star_full, left_full, right_full, pair_sound, takes_pair}
 use Rattle.derive.proofs.rows.take_over.Reads as over
 use Rattle.derive.proofs.rows.take_over.Kinds as kinds
 use Rattle.derive.proofs.rows.+take_over.Lts-take_over as lts
@@ -61,8 +61,8 @@ module _ (t : ℕ) where
   abbrev leaf-home : Here lts.After-slice-known6 → Here lts.After-left
   leaf-home c = c.before.before.before
 
-  abbrev leaf-made : Here lts.After-slice-known6 → Here lts.After-intern
-  leaf-made c = (leaf-home c).before.before.before
+  abbrev leaf_made : Here lts.After-slice-known6 → Here lts.After-intern
+  leaf_made c = (leaf-home c).before.before.before
 
   -- ---- A star: its child is told and taken over, its row made
 
@@ -75,8 +75,8 @@ module _ (t : ℕ) where
   abbrev child-taken : Here lts.After-slice-known9 → Here lts.After-take-over
   child-taken c = (child-home c).before.before.before
 
-  abbrev child-of : Here lts.After-take-over → Here lts.After-child
-  child-of c = (child-told c.before).before
+  abbrev child_of : Here lts.After-take-over → Here lts.After-child
+  child_of c = (child-told c.before).before
 
   abbrev star-told : Here lts.After-intern-arg6 → Here lts.After-known-told2
   star-told c = c.before.before.before
@@ -110,14 +110,14 @@ module _ (t : ℕ) where
   abbrev right-taken : Here lts.After-slice-known18 → Here lts.After-take-over3
   right-taken c = (right-home c).before.before.before
 
-  abbrev left-of : Here lts.After-take-over3 → Here lts.After-x2
-  left-of c = (right-asked c.before).before
+  abbrev left_of : Here lts.After-take-over3 → Here lts.After-x2
+  left_of c = (right-asked c.before).before
 
   abbrev both-taken : Here lts.After-y → Here lts.After-take-over3
   both-taken c = right-taken c.before.before
 
   abbrev first_of : Here lts.After-take-over3 → Here lts.After-take-over2
-  first_of c = left-taken (left-of c).before.before
+  first_of c = left-taken (left_of c).before.before
 
   abbrev pair-told : Here lts.After-intern-arg9 → Here lts.After-pair
   pair-told c = c.before.before.before
@@ -131,20 +131,20 @@ module _ (t : ℕ) where
   -- ---- The needs of a leaf
 
   row-at-requires : Here lts.Need-row-at-requires
-  row-at-requires c κs = let s = (given (lent c)).pre.1.0 in (s.in-kind, s.in_left, s.in_right)
+  row-at-requires c κs = let s = (given (lent c)).pre.1.0 in (s.in_kind, s.in_left, s.in_right)
 
   intern-requires : Here lts.Need-intern-requires
   intern-requires c κs =
       let told = leaf-told c in
       let row = told.before.before in
-      ((entry row).pre.1.1, leaf-read (read row) told.enum_told.given.1 _)
+      ((entry row).pre.1.1, leaf_read (read row) told.enum_told.given.1 _)
 
   returns : Here lts.Need-returns
   returns c =
-      let made = leaf-made c in
+      let made = leaf_made c in
       let told = leaf-told made.before in
       let row = told.before.before in
-      takes-leaf (read row) told.enum_told.given.1 (entry row).pre.1.1 made.intern.ensures
+      takes_leaf (read row) told.enum_told.given.1 (entry row).pre.1.1 made.intern.ensures
 
   -- ---- The needs of a star
 
@@ -152,38 +152,38 @@ module _ (t : ℕ) where
   take-over-requires c κs =
       let told = (child-told c).before in
       let row = told.before.before in
-      let p = star-read (read row) told.child.given.1 in
+      let p = star_read (read row) told.child.given.1 in
       let s = (entry row).pre in
-      (omega (arith, p.0, s.0), (sound-to-less s.1.0 p.0, s.1.1))
+      (omega (arith, p.0, s.0), (sound_to_less s.1.0 p.0, s.1.1))
 
   cast-t41 : Here lts.Need-overflow-cast-t41
   cast-t41 c =
       let told = c.before in
       let call = child-taken told.before.before in
-      let row = (child-of call).before.before in
+      let row = (child_of call).before.before in
       record { fits = omega (arith, named_small (entry row).pre.1.1 (took told.x.given.1 call.take-over.ensures)) }
 
   intern-requires-2 : Here lts.Need-intern-requires-2
   intern-requires-2 c κs =
       let told = (star-told c).before in
       let call = child-taken told.before.before in
-      let row = (child-of call).before.before in
+      let row = (child_of call).before.before in
       let k = took told.x.given.1 call.take-over.ensures in
-      (fitted-then (entry row).pre.1.1 k.came call.take-over.kept.1.1.1.1.0, of-star _ k.there refl)
+      (fitted_then (entry row).pre.1.1 k.came call.take-over.kept.1.1.1.1.0, of_star _ k.there refl)
 
   returns-2 : Here lts.Need-returns-2
   returns-2 c =
       let made = star-made c in
       let told = (star-told made.before).before in
       let call = child-taken told.before.before in
-      let child = child-of call in
-      takes-star (read child.before.before) child.child.given.1 (took told.x.given.1 call.take-over.ensures) made.intern2.ensures
+      let child = child_of call in
+      takes_star (read child.before.before) child.child.given.1 (took told.x.given.1 call.take-over.ensures) made.intern2.ensures
 
   returns-3 : Here lts.Need-returns-3
   returns-3 c =
       let call = child-taken c.before.before in
-      let child = child-of call in
-      star-full (read child.before.before) child.child.given.1 c.enum-told2.given.1 call.take-over.ensures
+      let child = child_of call in
+      star_full (read child.before.before) child.child.given.1 c.enum-told2.given.1 call.take-over.ensures
 
   -- ---- The needs of a sign
 
@@ -193,7 +193,7 @@ module _ (t : ℕ) where
       let row = told.before.before in
       let p = sign_read (read row) told.l.given.1 in
       let s = (entry row).pre in
-      (omega (arith, p.1, s.0), (sound-to-less s.1.0 p.1, s.1.1))
+      (omega (arith, p.1, s.0), (sound_to_less s.1.0 p.1, s.1.1))
 
   take-over-requires-3 : Here lts.Need-take-over-requires-3
   take-over-requires-3 c κs =
@@ -204,7 +204,7 @@ module _ (t : ℕ) where
       let p = sign_read (read row) two.l.given.1 in
       let s = (entry row).pre in
       let k = took told.x2.given.1 call.take-over2.ensures in
-      (omega (arith, p.2, s.0), (sound-to-less s.1.0 p.2, fitted-then s.1.1 k.came call.take-over2.kept.1.1.1.1.0))
+      (omega (arith, p.2, s.0), (sound_to_less s.1.0 p.2, fitted_then s.1.1 k.came call.take-over2.kept.1.1.1.1.0))
 
   -- Both children are taken over.
   pair-requires : Here lts.Need-pair-requires
@@ -213,9 +213,9 @@ module _ (t : ℕ) where
       let second = both-taken told in
       let first = first_of second in
       let f = (entry (two-of first).before.before).pre.1.1 in
-      let a = took (left-of second).x2.given.1 first.take-over2.ensures in
+      let a = took (left_of second).x2.given.1 first.take-over2.ensures in
       let b = took told.y.given.1 second.take-over3.ensures in
-      (named_small f a, named_small (fitted-then f a.came first.take-over2.kept.1.1.1.1.0) b)
+      (named_small f a, named_small (fitted_then f a.came first.take-over2.kept.1.1.1.1.0) b)
 
   intern-requires-3 : Here lts.Need-intern-requires-3
   intern-requires-3 c κs =
@@ -225,10 +225,10 @@ module _ (t : ℕ) where
       let first = first_of second in
       let two = two-of first in
       let row = two.before.before in
-      let a = took (left-of second).x2.given.1 first.take-over2.ensures in
+      let a = took (left_of second).x2.given.1 first.take-over2.ensures in
       let b = took told.y.given.1 second.take-over3.ensures in
-      let f = fitted-then (entry row).pre.1.1 a.came first.take-over2.kept.1.1.1.1.0 in
-      (fitted-then f b.came second.take-over3.kept.1.1.1.1.0, pair-sound (read row) two.l.given.1 a b paired.pair.ensures)
+      let f = fitted_then (entry row).pre.1.1 a.came first.take-over2.kept.1.1.1.1.0 in
+      (fitted_then f b.came second.take-over3.kept.1.1.1.1.0, pair_sound (read row) two.l.given.1 a b paired.pair.ensures)
 
   abbrev pair_of : Here lts.After-slice-known21 → Here lts.After-take-over3
   pair_of c = both-taken (pair-told (pair_made c).before).before.before
@@ -254,23 +254,23 @@ module _ (t : ℕ) where
       let second = both-taken told in
       let first = first_of second in
       let two = two-of first in
-      let a = took (left-of second).x2.given.1 first.take-over2.ensures in
+      let a = took (left_of second).x2.given.1 first.take-over2.ensures in
       let b = took told.y.given.1 second.take-over3.ensures in
-      takes-pair (read two.before.before) two.l.given.1 a b paired.pair.ensures made.intern3.ensures
+      takes_pair (read two.before.before) two.l.given.1 a b paired.pair.ensures made.intern3.ensures
 
   returns-5 : Here lts.Need-returns-5
   returns-5 c =
       let second = right-taken c.before.before in
       let first = first_of second in
       let two = two-of first in
-      let a = took (left-of second).x2.given.1 first.take-over2.ensures in
-      right-full (read two.before.before) two.l.given.1 a c.enum-told3.given.1 second.take-over3.ensures
+      let a = took (left_of second).x2.given.1 first.take-over2.ensures in
+      right_full (read two.before.before) two.l.given.1 a c.enum-told3.given.1 second.take-over3.ensures
 
   returns-6 : Here lts.Need-returns-6
   returns-6 c =
       let first = left-taken c.before.before in
       let two = two-of first in
-      left-full (read two.before.before) two.l.given.1 c.enum-told4.given.1 first.take-over2.ensures
+      left_full (read two.before.before) two.l.given.1 c.enum-told4.given.1 first.take-over2.ensures
 
 -- Before each return stand the lengths of the three columns.
 pub +take-over-spec : {M : Type 1} → statement M

@@ -5,7 +5,7 @@ mod Fresh
 mod Side
 mod Row
 use borrow.Author.Rules.{rules}
-use Claims.{μ-fresh, μ-side, μ-step, fresh_at, side-at, step-at, fresh-claims, side-claims, step-claims}
+use Claims.{μ-fresh, μ-side, μ-step, fresh_at, side-at, step_at, fresh-claims, side-claims, step-claims}
 use Fresh
 use Side
 use Row
@@ -41,7 +41,7 @@ pub +fresh-step-side-step-step-spec : {M : Type 1} → statement M
     (λ c κs. search rules)
     (λ c. search rules) (λ c. search rules) (λ c. search rules) (Side.returns-2 t)
     (λ c. search rules) (λ c. search rules) (λ c. search rules) (Side.returns-3 t))
-    λ t. step-lts.spec (step-claims t) (step-at t) step.Post
+    λ t. step-lts.spec (step-claims t) (step_at t) step.Post
     (Row.row-at-requires t)
     (λ c κs. search rules)
     (λ c. search rules) (λ c. search rules) (λ c. search rules) (Row.returns t)

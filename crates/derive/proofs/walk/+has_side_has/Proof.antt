@@ -8,8 +8,8 @@ use borrow.Fn.Kinds.{In, Out}
 use borrow.Fn.PlainCycle.{Measures, is, falls, and}
 use Rattle.theory.specs.Table.{Table, Row, table}
 use Rattle.derive.specs.Sides.{right_side}
-use Rattle.derive.proofs.Growing.{rows-sound-to}
-use Rattle.derive.proofs.Membership.{weight, told-yes, told-no, letter-tells, Two-sides, left-within, right-within, left_less, right-less, left-has, right-tells, nothing_tells, Lower, child-within, outside-tells, member-within, member-tells}
+use Rattle.derive.proofs.Growing.{rows_sound_to}
+use Rattle.derive.proofs.Membership.{weight, told_yes, told_no, letter_tells, TwoSides, left_within, right_within, left_less, right_less, left_has, right_tells, nothing_tells, Lower, child_within, outside_tells, member_within, member_tells}
 use Rattle.derive.proofs.walk.has.Reads as has
 use Rattle.derive.proofs.walk.has.Kinds as has-kinds
 use Rattle.derive.proofs.walk.+has_side_has.Lts-has as has-lts
@@ -70,61 +70,61 @@ module _ (t : ℕ) where
   lefted c = c.before.before.before
 
   two : (c : InHas has-lts.After-left-side) → (let r = sided c in
-      Two-sides (lent r) (asked r).pre.1.count (asked r).args.row c.left-side.result (right_side (lent r) (asked r).args.row))
+      TwoSides (lent r) (asked r).pre.1.count (asked r).args.row c.left_side.result (right_side (lent r) (asked r).args.row))
   two c =
       let r = sided c in
       let s = (asked r).pre.1 in
       record {
         rows = s.rows;
         within = s.row_in;
-        no-letter = λ e. c.before.if1.false (ap (λ (v : Row). v.kind) r.row_at.ensures ∙ e);
-        left = c.left-side.ensures;
+        no_letter = λ e. c.before.if1.false (ap (λ (v : Row). v.kind) r.row_at.ensures ∙ e);
+        left = c.left_side.ensures;
         right = refl;
       }
 
   both : (c : InHas has-lts.After-right-side) → (let r = sided (lefted c) in
-      Two-sides (lent r) (asked r).pre.1.count (asked r).args.row (lefted c).left-side.result c.right_side.result)
+      TwoSides (lent r) (asked r).pre.1.count (asked r).args.row (lefted c).left_side.result c.right_side.result)
   both c =
       let k = two (lefted c) in
-      record { rows = k.rows; within = k.within; no-letter = k.no-letter; left = k.left; right = c.right_side.ensures }
+      record { rows = k.rows; within = k.within; no_letter = k.no_letter; left = k.left; right = c.right_side.ensures }
 
   has-row-at-requires : InHas has-lts.Need-row-at-requires
   has-row-at-requires c κs =
       let s = c.before.before.before.requires.1 in
-      let k = rows-sound-to s.rows s.row_in in
-      (k.in-kind, k.in_left, k.in_right)
+      let k = rows_sound_to s.rows s.row_in in
+      (k.in_kind, k.in_left, k.in_right)
 
   has-returns : InHas has-lts.Need-returns
   has-returns c =
       let r = c.before.before.before in
       let s = (asked r).requires.1 in
-      letter-tells (record { rows = s.rows; within = s.row_in; is = r.row_at.ensures; kind = c.before.if1.true }) _ s.member-in
+      letter_tells (record { rows = s.rows; within = s.row_in; is = r.row_at.ensures; kind = c.before.if1.true }) _ s.member_in
 
   has-left-side-requires : InHas has-lts.Need-left-side-requires
-  has-left-side-requires c κs = let s = (asked c.before.before).pre.1 in rows-sound-to s.rows s.row_in
+  has-left-side-requires c κs = let s = (asked c.before.before).pre.1 in rows_sound_to s.rows s.row_in
 
   has-side-has-requires : InHas has-lts.Need-side-has-requires
   has-side-has-requires c κs =
       let s = (asked (sided c)).pre in
       let k = two c in
-      (omega (arith, left_less k, s.0), record { count = s.1.count; rows = s.1.rows; side-in = left-within k; member-in = s.1.member-in })
+      (omega (arith, left_less k, s.0), record { count = s.1.count; rows = s.1.rows; side_in = left_within k; member_in = s.1.member_in })
 
   has-returns-2 : InHas has-lts.Need-returns-2
-  has-returns-2 c = left-has (two c.before.before) _ _ (told-yes _ c.if2.true c.before.side-has.ensures)
+  has-returns-2 c = left_has (two c.before.before) _ _ (told_yes _ c.if2.true c.before.side-has.ensures)
 
   has-right-side-requires : InHas has-lts.Need-right-side-requires
-  has-right-side-requires c κs = let s = (asked (sided c.before.before)).pre.1 in rows-sound-to s.rows s.row_in
+  has-right-side-requires c κs = let s = (asked (sided c.before.before)).pre.1 in rows_sound_to s.rows s.row_in
 
   has-side-has-requires-2 : InHas has-lts.Need-side-has-requires-2
   has-side-has-requires-2 c κs =
       let s = (asked (sided (lefted c))).pre in
       let k = both c in
-      (omega (arith, right-less k, s.0), record { count = s.1.count; rows = s.1.rows; side-in = right-within k; member-in = s.1.member-in })
+      (omega (arith, right_less k, s.0), record { count = s.1.count; rows = s.1.rows; side_in = right_within k; member_in = s.1.member_in })
 
   has-returns-3 : InHas has-lts.Need-returns-3
   has-returns-3 c =
       let r = c.before in
-      right-tells (both r) _ _ c.side-has2.result (told-no _ r.before.if2.false r.before.before.side-has.ensures) c.side-has2.ensures
+      right_tells (both r) _ _ c.side-has2.result (told_no _ r.before.if2.false r.before.before.side-has.ensures) c.side-has2.ensures
 
 -- ---- A side's list
 
@@ -147,27 +147,27 @@ module _ (t : ℕ) where
       c.lower.result)
   lowering c =
       let s = (begun (told c)).before.before.pre.1 in
-      record { rows = s.rows; is = (told c).side.given.1; within = s.side-in; place = s.member-in; lowered_is = c.lower.ensures }
+      record { rows = s.rows; is = (told c).side.given.1; within = s.side_in; place = s.member_in; lowered_is = c.lower.ensures }
 
   side-returns : InSide side-lts.Need-returns
   side-returns c = nothing_tells _ _ c.enum_told.given.1
 
   side-lower-requires : InSide side-lts.Need-lower-requires
-  side-lower-requires c κs = let s = (begun c.before).before.before.pre.1 in rows-sound-to s.rows s.member-in
+  side-lower-requires c κs = let s = (begun c.before).before.before.pre.1 in rows_sound_to s.rows s.member_in
 
   side-returns-2 : InSide side-lts.Need-returns-2
-  side-returns-2 c = outside-tells (lowering c.before.before) _ c.enum-told2.given.1
+  side-returns-2 c = outside_tells (lowering c.before.before) _ c.enum-told2.given.1
 
   side-has-requires : InSide side-lts.Need-has-requires
   side-has-requires c κs =
       let k = lowering (member c) in
       let s = (begun (told (member c))).before.before.pre in (
         omega (arith, ap weight k.is, s.0),
-        record { count = s.1.count; rows = s.1.rows; row_in = child-within k; member-in = member-within k c.before.row.given.1 },
+        record { count = s.1.count; rows = s.1.rows; row_in = child_within k; member_in = member_within k c.before.row.given.1 },
       )
 
   side-returns-3 : InSide side-lts.Need-returns-3
-  side-returns-3 c = let r = c.before in member-tells (lowering (member r)) r.before.row.given.1 _ c.has.result c.has.ensures
+  side-returns-3 c = let r = c.before in member_tells (lowering (member r)) r.before.row.given.1 _ c.has.result c.has.ensures
 
 pub +has-side-has-spec : {M : Type 1} → statement M
 +has-side-has-spec = close μ-has μ-side (λ t. has-lts.spec (has-claims t) (has-at t) has.Post

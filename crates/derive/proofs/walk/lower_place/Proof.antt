@@ -1,7 +1,7 @@
 -- `lower_place` gives the place in the child's list that the join takes to a place in the side's.
 use borrow.Author.Rules.{rules}
 use mathlib.Core.Path.{subst}
-use Rattle.derive.specs.Walk.{Place-within}
+use Rattle.derive.specs.Walk.{PlaceWithin}
 use Rattle.derive.proofs.walk.lower_place.Statement.{statement}
 use Rattle.derive.proofs.walk.lower_place.Tie as tie
 
@@ -16,7 +16,7 @@ told c = c.before.before
 -- ---- The needs
 
 lower-requires : tie.Need-lower-requires
-lower-requires c κs = let p = c.before in subst (Place-within _) p.place.given.1 (entry p.before).before.requires
+lower-requires c κs = let p = c.before in subst (PlaceWithin _) p.place.given.1 (entry p.before).before.requires
 
 returns-2 : tie.Need-returns-2
 returns-2 c =

@@ -4,7 +4,7 @@ use mathlib.Core.Path.{sym, ap, subst}
 use lib.ListN.{length}
 use lib.Seq.{length-take-le}
 use Rattle.lines.specs.declared.input.Line.{Line}
-use Rattle.lines.specs.Input.{Within, line-bytes}
+use Rattle.lines.specs.Input.{Within, line_bytes}
 use Rattle.lines.proofs.input.bytes.Statement.{statement}
 use Rattle.lines.proofs.input.bytes.Tie as tie
 
@@ -20,7 +20,7 @@ within c =
 ended : tie.Need-returns-2
 ended c =
     let case = c.before.before in
-    sym (ap (λ (l : Line). line-bytes l (start case).args.column.now) case.line.given.1)
+    sym (ap (λ (l : Line). line_bytes l (start case).args.column.now) case.line.given.1)
 
 pub bytes-spec : {M : Type 1} → statement M
 bytes-spec =

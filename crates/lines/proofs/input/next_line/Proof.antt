@@ -5,7 +5,7 @@ use mathlib.Core.Path.{subst}
 use Rattle.lines.specs.declared.input.Line.TheVariants.{Full}
 use Rattle.lines.specs.declared.input.Passed.{Passed}
 use Rattle.lines.specs.Input.{Took, Passes}
-use Rattle.lines.proofs.WholeLine.{took, as_none, as-ended, as-failed, with_rest, without-rest}
+use Rattle.lines.proofs.WholeLine.{took, as_none, as_ended, as_failed, with_rest, without_rest}
 use Rattle.lines.proofs.input.next_line.Statement.{statement}
 use Rattle.lines.proofs.input.next_line.Tie as tie
 
@@ -48,10 +48,10 @@ none : tie.Need-returns
 none c = search (rules, as_none)
 
 ended : tie.Need-returns-2
-ended c = search (rules, as-ended)
+ended c = search (rules, as_ended)
 
 failed : tie.Need-returns-3
-failed c = search (rules, as-failed)
+failed c = search (rules, as_failed)
 
 passed : tie.Need-returns-4
 passed c =
@@ -60,7 +60,7 @@ passed c =
     with_rest (filled (full r)) (omega (arith, (start t).pre.1, t.take-line.kept.1.1.0)) (subst (owes r) c.before.after.given.1 r.rest.ensures)
 
 unpassed : tie.Need-returns-5
-unpassed c = let r = called c.before.before in without-rest (filled (full r)) (subst (owes r) c.enum-told4.given.1 r.rest.ensures)
+unpassed c = let r = called c.before.before in without_rest (filled (full r)) (subst (owes r) c.enum-told4.given.1 r.rest.ensures)
 
 pub next-line-spec : {M : Type 1} → statement M
 next-line-spec =

@@ -5,7 +5,7 @@ use mathlib.Core.Path.{subst}
 use Rattle.lines.specs.declared.input.Next.{Next}
 use Rattle.lines.specs.declared.input.Next.TheVariants.{Byte}
 use Rattle.lines.specs.Input.{Nexts}
-use Rattle.lines.proofs.Taking.{Passing, passing-none, passing-byte, rest_ended, rest-last, rest-failed, rest-endless}
+use Rattle.lines.proofs.Taking.{Passing, passing_none, passing_byte, rest_ended, rest_last, rest_failed, rest_endless}
 use Rattle.lines.proofs.input.rest.Statement.{statement}
 use Rattle.lines.proofs.input.rest.Tie as tie
 
@@ -41,12 +41,12 @@ byte-taken c = subst (owes (of-byte c)) c.before.byte.given.1 (of-byte c).take-b
 failed : tie.Need-returns invariant-loop decreases-loop
 failed c =
     let k = called c.before.before in
-    rest-failed (turn k).loop.inv k.take-byte.last.0 (subst (owes k) c.enum_told.given.1 k.take-byte.ensures)
+    rest_failed (turn k).loop.inv k.take-byte.last.0 (subst (owes k) c.enum_told.given.1 k.take-byte.ensures)
 
 ended : tie.Need-returns-2 invariant-loop decreases-loop
 ended c =
     let k = called c.before.before in
-    rest-last (turn k).loop.inv k.take-byte.kept.0 (subst (owes k) c.enum-told2.given.1 k.take-byte.ensures)
+    rest_last (turn k).loop.inv k.take-byte.kept.0 (subst (owes k) c.enum-told2.given.1 k.take-byte.ensures)
 
 newline : tie.Need-returns-3 invariant-loop decreases-loop
 newline c =
@@ -58,15 +58,15 @@ loop-again : tie.Need-loop-preserved invariant-loop decreases-loop
 loop-again c =
     let k = of-byte c.before in
     let next = byte-taken c.before in
-    passing-byte (turn k).loop.inv next.0 next.1 k.take-byte.kept.0 k.before.before.loop-test.taken c.if1.false
+    passing_byte (turn k).loop.inv next.0 next.1 k.take-byte.kept.0 k.before.before.loop-test.taken c.if1.false
 
 endless : tie.Need-returns-4 invariant-loop decreases-loop
-endless c = rest-endless c.before.loop.invariant (omega arith) (start c.before).pre (search rules)
+endless c = rest_endless c.before.loop.invariant (omega arith) (start c.before).pre (search rules)
 
 pub rest-spec : {M : Type 1} → statement M
 rest-spec =
     tie.close
-    (tie.spec invariant-loop decreases-loop (λ c. passing-none c.before.requires) (λ c κs. c.before.before.loop.invariant.inside)
+    (tie.spec invariant-loop decreases-loop (λ c. passing_none c.before.requires) (λ c κs. c.before.before.loop.invariant.inside)
     (λ c. search rules) (λ c. search rules) failed
     (λ c. search rules) (λ c. search rules) ended
     (λ c. search rules) (λ c. search rules) newline

@@ -5,7 +5,7 @@ use mathlib.Core.Path.{subst}
 use Rattle.lines.specs.declared.input.Filled.{Filled}
 use Rattle.lines.specs.declared.input.Filled.TheVariants.{To}
 use Rattle.lines.specs.Input.{Fills}
-use Rattle.lines.proofs.Taking.{taken_here, taken-read}
+use Rattle.lines.proofs.Taking.{taken_here, taken_read}
 use Rattle.lines.proofs.input.take_byte.Statement.{statement}
 use Rattle.lines.proofs.input.take_byte.Tie as tie
 
@@ -31,7 +31,7 @@ some-came c = let k = came c.before.before in search (rules, k)
 after_read : tie.Need-returns-4
 after_read c =
     let k = came c.before.before in
-    (record { ordered = omega (arith, k.0); within = k.1 }, taken-read (omega arith) (search rules) k.0 k.1)
+    (record { ordered = omega (arith, k.0); within = k.1 }, taken_read (omega arith) (search rules) k.0 k.1)
 
 pub take-byte-spec : {M : Type 1} → statement M
 take-byte-spec =

@@ -7,7 +7,7 @@ use lib.ListN as list
 use Rattle.lines.specs.declared.input.Next.{Next}
 use Rattle.lines.specs.declared.input.Next.TheVariants.{Byte}
 use Rattle.lines.specs.Input.{Nexts}
-use Rattle.lines.proofs.Taking.{Stored, stored-none, stored-byte, line-ended, line-full, line-last, line-failed}
+use Rattle.lines.proofs.Taking.{Stored, stored_none, stored_byte, line_ended, line_full, line_last, line_failed}
 use Rattle.lines.proofs.input.take_line.Statement.{statement}
 use Rattle.lines.proofs.input.take_line.Tie as tie
 
@@ -41,33 +41,33 @@ failed : tie.Need-returns invariant-loop decreases-loop
 failed c =
     let k = called c.before.before in
     let used-up = subst (owes k) c.enum_told.given.1 k.take-byte.ensures in
-    line-failed (turn k).loop.inv used-up
+    line_failed (turn k).loop.inv used-up
 
 ended : tie.Need-returns-2 invariant-loop decreases-loop
 ended c =
     let k = called c.before.before.before in
     let used-up = subst (owes k) c.before.enum-told2.given.1 k.take-byte.ensures in
-    line-last (turn k).loop.inv used-up (omega (arith, k.before.before.loop-test.taken)) k.take-byte.kept.0 c.last_line.ensures
+    line_last (turn k).loop.inv used-up (omega (arith, k.before.before.loop-test.taken)) k.take-byte.kept.0 c.last_line.ensures
 
 newline : tie.Need-returns-3 invariant-loop decreases-loop
 newline c =
     let k = of-byte c.before in
     let next = byte-taken c.before in
-    line-ended (turn k).loop.inv next.0 next.1 (omega (arith, k.before.before.loop-test.taken)) c.if1.true
+    line_ended (turn k).loop.inv next.0 next.1 (omega (arith, k.before.before.loop-test.taken)) c.if1.true
 
 loop-again : tie.Need-loop-preserved invariant-loop decreases-loop
 loop-again c =
     let k = of-byte c.before in
     let next = byte-taken c.before in
-    stored-byte (turn k).loop.inv next.0 next.1 k.take-byte.kept.0 k.before.before.loop-test.taken c.if1.false
+    stored_byte (turn k).loop.inv next.0 next.1 k.take-byte.kept.0 k.before.before.loop-test.taken c.if1.false
 
 full : tie.Need-returns-4 invariant-loop decreases-loop
-full c = line-full c.before.loop.invariant (omega arith)
+full c = line_full c.before.loop.invariant (omega arith)
 
 pub take-line-spec : {M : Type 1} → statement M
 take-line-spec =
     tie.close
-    (tie.spec invariant-loop decreases-loop (λ c. stored-none c.before.before.requires) (λ c κs. c.before.before.loop.invariant.inside)
+    (tie.spec invariant-loop decreases-loop (λ c. stored_none c.before.before.requires) (λ c κs. c.before.before.loop.invariant.inside)
     (λ c. search rules) (λ c. search rules) (λ c. search rules) failed
     (λ c. search rules) (λ c κs. search rules) (λ c. search rules) (λ c. search rules) ended
     (λ c. search rules) (λ c. search rules) (λ c. search rules) newline

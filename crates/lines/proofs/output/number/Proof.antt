@@ -5,7 +5,7 @@ use mathlib.Core.Path.{◌≡◌, ap}
 use mathlib.Core.List.{◌∷◌, []}
 use lib.ListN.{length, take, length-append}
 use Rattle.theory.specs.Lines.{decimal}
-use Rattle.lines.proofs.Putting.{number-text, Numbered, numbered}
+use Rattle.lines.proofs.Putting.{number_text, Numbered, numbered}
 use Rattle.lines.proofs.output.number.Statement.{statement}
 use Rattle.lines.proofs.output.number.Tie as tie
 
@@ -18,7 +18,7 @@ abbrev spelled : tie.After-digits2 → tie.After-decimal
 spelled c = c.before.before
 
 text : (c : tie.After-decimal) → take c.decimal.result c.decimal.new.1.0 ≡ decimal (start c).args.n
-text c = number-text _ _ _ c.decimal.ensures.1.0 c.decimal.ensures.1.1
+text c = number_text _ _ _ c.decimal.ensures.1.0 c.decimal.ensures.1.1
 
 put : (c : tie.After-slice-known2)
     → let word = c.before.before in let s = (start (spelled word.before)).args in

@@ -3,7 +3,7 @@ use borrow.Author.Rules.{rules}
 use native.Mathlib.Omega.{arith}
 use Rattle.theory.specs.Refusal.{refusal}
 use Rattle.theory.specs.Lines.{space, newline}
-use Rattle.lines.proofs.Putting.{put_then, number_short, refusal-short}
+use Rattle.lines.proofs.Putting.{put_then, number_short, refusal_short}
 use Rattle.lines.proofs.output.refused.Statement.{statement}
 use Rattle.lines.proofs.output.refused.Tie as tie
 
@@ -51,7 +51,7 @@ returns c =
     let w = said n.before in
     let s = start w in
     let line = put_then (put_then w.word.ensures n.number.ensures) p.number2.ensures in
-    let short = refusal-short (refusal s.args.number s.args.place) (omega (arith, s.fits.number)) (omega (arith, s.fits.place)) in
+    let short = refusal_short (refusal s.args.number s.args.place) (omega (arith, s.fits.number)) (omega (arith, s.fits.place)) in
     (line, omega (arith, line.count))
 
 pub refused-spec : {M : Type 1} → statement M

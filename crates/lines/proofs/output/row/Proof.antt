@@ -4,7 +4,7 @@ use Prim.Native.Nat.{◌-◌, ◌^◌, ◌<◌}
 use native.Mathlib.Omega.{arith}
 use lib.ListN.{length, get_or}
 use Rattle.theory.specs.Lines.{space, newline}
-use Rattle.lines.proofs.Putting.{Spaced, spaced-none, spaced-next, row_put, number_short}
+use Rattle.lines.proofs.Putting.{Spaced, spaced_none, spaced_next, row_put, number_short}
 use Rattle.lines.proofs.output.row.Statement.{statement}
 use Rattle.lines.proofs.output.row.Tie as tie
 
@@ -42,7 +42,7 @@ again : tie.Need-loop-preserved invariant-loop decreases-loop
 again c =
     let n = called c in
     let t = turn n.before.before in
-    spaced-next t.before.loop.inv t.loop-test.taken (narrow t) n.number.ensures
+    spaced_next t.before.loop.inv t.loop-test.taken (narrow t) n.number.ensures
 
 last-asked : tie.Need-number-requires-2 invariant-loop decreases-loop
 last-asked c κs =
@@ -61,5 +61,5 @@ returns c =
 pub row-spec : {M : Type 1} → statement M
 row-spec =
     tie.close
-    (tie.spec invariant-loop decreases-loop (λ c. spaced-none _ _ _) (λ c. omega arith) (λ c. omega arith) asked (λ c. omega arith) (λ c. omega arith) again
+    (tie.spec invariant-loop decreases-loop (λ c. spaced_none _ _ _) (λ c. omega arith) (λ c. omega arith) asked (λ c. omega arith) (λ c. omega arith) again
     last-asked (λ c. search rules) returns)

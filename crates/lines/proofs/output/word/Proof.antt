@@ -3,7 +3,7 @@ use Prim.Native.Nat.{◌+◌, ◌-◌, ◌≤◌}
 use native.Mathlib.Omega.{arith}
 use lib.ListN.{length, take}
 use Rattle.lines.specs.Output.{Put}
-use Rattle.lines.proofs.Putting.{put-none, put_next, put_all}
+use Rattle.lines.proofs.Putting.{put_none, put_next, put_all}
 use Rattle.lines.proofs.output.word.Statement.{statement}
 use Rattle.lines.proofs.output.word.Tie as tie
 
@@ -21,6 +21,6 @@ loop-again c =
 pub word-spec : {M : Type 1} → statement M
 word-spec =
     tie.close
-    (tie.spec invariant-loop decreases-loop (λ c. (omega arith, put-none _ _)) (λ c. omega arith) (λ c. omega arith) (λ c. omega arith) (λ c. omega arith)
+    (tie.spec invariant-loop decreases-loop (λ c. (omega arith, put_none _ _)) (λ c. omega arith) (λ c. omega arith) (λ c. omega arith) (λ c. omega arith)
     (λ c. omega arith) loop-again (λ c. omega arith) (λ c. c.before.loop.invariant.1.same_length)
     (λ c. put_all _ c.before.loop.i (omega arith) c.before.loop.invariant.1))

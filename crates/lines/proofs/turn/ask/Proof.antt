@@ -1,7 +1,7 @@
 -- `ask` writes out what is answered before it waits, and takes the next line.
 use borrow.Author.Rules.{rules}
 use mathlib.Core.Path.{refl}
-use Rattle.lines.proofs.Waiting.{what-is-left, write-due}
+use Rattle.lines.proofs.Waiting.{what_is_left, write_due}
 use Rattle.lines.proofs.turn.ask.Statement.{statement}
 use Rattle.lines.proofs.turn.ask.Tie as tie
 
@@ -31,14 +31,14 @@ failed : tie.Need-returns
 failed c =
     let r = c.before.before in
     let w = waited r in
-    (write-due (start w).pre.1.0 w.waits.result c.enum_told.given.1 r.with-room.ensures w.waits.ensures, refl)
+    (write_due (start w).pre.1.0 w.waits.result c.enum_told.given.1 r.with_room.ensures w.waits.ensures, refl)
 
 asked : tie.Need-returns-2
 asked c =
     let kept = (told (took c.before.before.before)).before in
     let r = roomy kept in
     let w = waited r in
-    (what-is-left (start w).pre.1.0 (start w).pre.1.1 w.waits.result kept.kept.given.1 r.with-room.ensures w.waits.ensures, search rules)
+    (what_is_left (start w).pre.1.0 (start w).pre.1.1 w.waits.result kept.kept.given.1 r.with_room.ensures w.waits.ensures, search rules)
 
 pub ask-spec : {M : Type 1} → statement M
 ask-spec =

@@ -6,10 +6,10 @@ use mathlib.Core.Bool.{Bool, true, ◌&&◌, ◌||◌, and-eq-true_iff}
 use lib.ListN.{length}
 use lib.Dec.{ltb}
 use borrow.Author.Tests.{not-true, not-false}
-use Rattle.theory.specs.Arcs.{arc-columns, even-arcs}
-use Rattle.theory.specs.Record.{Handed, handed, Work, work, short, states-fit, arcs-fit, matcher-refusal}
-use Rattle.theory.proofs.Arcs.{even-arcs-iff}
-use Rattle.theory.proofs.MatcherRefusal.{states-fit-iff, arcs-fit-iff, counts-fit, values-fit, ordered, numbered}
+use Rattle.theory.specs.Arcs.{arc_columns, even_arcs}
+use Rattle.theory.specs.Record.{Handed, handed, Work, work, short, states_fit, arcs_fit, matcher_refusal}
+use Rattle.theory.proofs.Arcs.{even_arcs_iff}
+use Rattle.theory.proofs.MatcherRefusal.{states_fit_iff, arcs_fit_iff, counts_fit, values_fit, ordered, numbered}
 use Rattle.matcher.proofs.checks.refusal.Statement.{statement}
 use Rattle.matcher.proofs.checks.refusal.Tie as tie
 
@@ -31,44 +31,44 @@ values_seen c = counted c.before.before
 
 abbrev automaton : tie.Start → Handed
 automaton c =
-    handed c.args.states c.args.accepting.now c.args.arcs (arc-columns c.args.from.now c.args.letter.now c.args.to.now)
+    handed c.args.states c.args.accepting.now c.args.arcs (arc_columns c.args.from.now c.args.letter.now c.args.to.now)
 
 abbrev lent : tie.Start → Work
 lent c = work c.args.current.now c.args.next.now
 
-even : (c : tie.Else1) → even-arcs (automaton (entry c.before)).arcs.columns ≡ true
-unfolding even-arcs
+even : (c : tie.Else1) → even_arcs (automaton (entry c.before)).arcs.columns ≡ true
+unfolding even_arcs
 even c = not-false _ c.if1.false
 
-counts : (c : tie.Else2) → counts-fit (automaton (entry c.before.before)) ≡ true
-unfolding states-fit arcs-fit
+counts : (c : tie.Else2) → counts_fit (automaton (entry c.before.before)) ≡ true
+unfolding states_fit arcs_fit
 counts c = not-false _ c.if2.false
 
-values : (c : tie.After-ends-fit) → values-fit (automaton (entry (counted c).before.before)) ≡ (c.before.accepting-fits.result && c.ends-fit.result)
-values c = sym (ap₂ ◌&&◌ c.before.accepting-fits.ensures c.ends-fit.ensures)
+values : (c : tie.After-ends-fit) → values_fit (automaton (entry (counted c).before.before)) ≡ (c.before.accepting_fits.result && c.ends_fit.result)
+values c = sym (ap₂ ◌&&◌ c.before.accepting_fits.ensures c.ends_fit.ensures)
 
 -- ---- The needs
 
-columns-differ : tie.Need-returns
-unfolding even-arcs
-columns-differ c = let e = entry c.before in numbered (automaton e) (lent e) (not-true _ c.if1.true) refl refl refl
+columns_differ : tie.Need-returns
+unfolding even_arcs
+columns_differ c = let e = entry c.before in numbered (automaton e) (lent e) (not-true _ c.if1.true) refl refl refl
 
 count-misfits : tie.Need-returns-2
-unfolding states-fit arcs-fit
+unfolding states_fit arcs_fit
 count-misfits c =
     let e = entry c.before.before in
     numbered (automaton e) (lent e) (even c.before) (not-true _ c.if2.true) refl refl
 
-accepting-long : tie.Need-accepting-fits-requires
-accepting-long c κs =
+accepting_long : tie.Need-accepting-fits-requires
+accepting_long c κs =
     let h = automaton (entry c.before.before) in
-    ((states-fit-iff h).0 ((and-eq-true_iff (states-fit h) _).0 (counts c)).0).2
+    ((states_fit_iff h).0 ((and-eq-true_iff (states_fit h) _).0 (counts c)).0).2
 
-arcs-long : tie.Need-ends-fit-requires
-arcs-long c κs =
+arcs_long : tie.Need-ends-fit-requires
+arcs_long c κs =
     let h = automaton (entry c.before.before.before) in
-    let long = ((arcs-fit-iff h.arcs).0 ((and-eq-true_iff (states-fit h) _).0 (counts c.before)).1).0 in
-    let same = (even-arcs-iff h.arcs.columns).0 (even c.before.before) in
+    let long = ((arcs_fit_iff h.arcs).0 ((and-eq-true_iff (states_fit h) _).0 (counts c.before)).1).0 in
+    let same = (even_arcs_iff h.arcs.columns).0 (even c.before.before) in
     (long, omega (arith, same.letter), omega (arith, same.to))
 
 value-misfits : tie.Need-returns-3
@@ -77,18 +77,18 @@ value-misfits c =
     let e = entry at.before.before in
     numbered (automaton e) (lent e) (even at.before) (counts at) (values c.before ∙ not-true _ c.if3.true) refl
 
-few-states : tie.Need-words-requires
-few-states c κs =
+few_states : tie.Need-words-requires
+few_states c κs =
     let at = counted c.before in
     let h = automaton (entry at.before.before) in
-    let few = ((states-fit-iff h).0 ((and-eq-true_iff (states-fit h) _).0 (counts at)).0).1 in
+    let few = ((states_fit_iff h).0 ((and-eq-true_iff (states_fit h) _).0 (counts at)).0).1 in
     omega arith
 
 -- All but the last test is passed, and that one is answered by b.
 last-test : (c : tie.After-words) {b : Bool}
     → (let e = entry (values_seen c).before.before in
     (ltb (length e.args.current.now) c.words.result || ltb (length e.args.next.now) c.words.result) ≡ b
-    → (ordered true true b).number ≡ (matcher-refusal (automaton e) (lent e)).number)
+    → (ordered true true b).number ≡ (matcher_refusal (automaton e) (lent e)).number)
 unfolding short
 last-test c q =
     let at = values_seen c in
@@ -97,8 +97,8 @@ last-test c q =
     numbered (automaton e) (lent e) (even at.before) (counts at) fits
     (ap (λ (n : ℕ). ltb (length e.args.current.now) n || ltb (length e.args.next.now) n) (sym c.words.ensures) ∙ q)
 
-work-short : tie.Need-returns-4
-work-short c = last-test c.before c.if4.true
+work_short : tie.Need-returns-4
+work_short c = last-test c.before c.if4.true
 
 nothing-due : tie.Need-returns-5
 nothing-due c = last-test c.before c.if4.false
@@ -106,4 +106,4 @@ nothing-due c = last-test c.before c.if4.false
 pub refusal-spec : {M : Type 1} → statement M
 refusal-spec =
     tie.close
-    (tie.spec columns-differ count-misfits accepting-long arcs-long value-misfits few-states work-short nothing-due)
+    (tie.spec columns_differ count-misfits accepting_long arcs_long value-misfits few_states work_short nothing-due)

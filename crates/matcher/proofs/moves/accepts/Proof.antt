@@ -7,7 +7,7 @@ use mathlib.Core.Bool.{Bool, ◌&&◌, ◌||◌}
 use lib.ListN.{get_or}
 use lib.Dec.{eqb}
 use Rattle.theory.specs.Below.{some_below}
-use Rattle.theory.proofs.Below.{some_next, at-end}
+use Rattle.theory.proofs.Below.{some_next, at_end}
 use Rattle.sets.specs.Bits.{bit}
 use Rattle.matcher.proofs.moves.accepts.Statement.{statement}
 use Rattle.matcher.proofs.moves.accepts.Tie as tie
@@ -39,7 +39,7 @@ loop-again c =
 returns : tie.Need-returns invariant-loop decreases-loop
 returns c =
     let at = c.before in
-    at-end (λ (n : ℕ). some_below n (accepted-at (entry at))) at.loop.invariant.1 at.loop.invariant.0 c.loop-test.false
+    at_end (λ (n : ℕ). some_below n (accepted-at (entry at))) at.loop.invariant.1 at.loop.invariant.0 c.loop-test.false
 
 pub accepts-spec : {M : Type 1} → statement M
 accepts-spec =

@@ -6,14 +6,14 @@ use mathlib.Core.Path.{ap, sym, ◌∙◌}
 use mathlib.Core.Logic.{⊎_elim}
 use mathlib.Core.List.{List}
 use lib.ListN.{length}
-use Rattle.theory.specs.Arcs.{arc-columns, moved}
+use Rattle.theory.specs.Arcs.{arc_columns, moved}
 use Rattle.sets.specs.Bits.{bit}
-use Rattle.matcher.proofs.Spread.{Spread, spread_none, spread-other, spread-unset, spread-set, spread_end}
+use Rattle.matcher.proofs.Spread.{Spread, spread_none, spread_other, spread_unset, spread_set, spread_end}
 use Rattle.matcher.proofs.moves.spread.Statement.{statement}
 use Rattle.matcher.proofs.moves.spread.Tie as tie
 
 abbrev invariant-loop : tie.invariant-loop
-invariant-loop arcs from letter to byte current next₀ i₀ next i = (i ≤ arcs) × Spread (arc-columns from letter to) (bit current) byte next₀ next i
+invariant-loop arcs from letter to byte current next₀ i₀ next i = (i ≤ arcs) × Spread (arc_columns from letter to) (bit current) byte next₀ next i
 
 abbrev decreases-loop : tie.decreases-loop
 decreases-loop arcs from letter to byte current next₀ i₀ next i = arcs - i
@@ -53,7 +53,7 @@ from-cast : tie.Need-overflow-cast-marked invariant-loop decreases-loop
 from-cast c = omega (arith, c.shared-slice-known6.given (at_from c).loop.i)
 
 marked-requires : tie.Need-marked-requires invariant-loop decreases-loop
-marked-requires c κs = (entry (at_from c)).pre.from-held (at_from c).loop.i (omega arith)
+marked-requires c κs = (entry (at_from c)).pre.from_held (at_from c).loop.i (omega arith)
 
 to_read : tie.Need-shared-slice-read-mark invariant-loop decreases-loop
 to_read c = omega (arith, (entry (at-to c)).pre.spans.to)
@@ -72,9 +72,9 @@ loop-again c =
       omega arith,
       ⊎_elim
           (λ w.
-          spread-set r w.0.taken (sym w.2.ensures ∙ w.3.taken) (ap length w.9 ∙ w.6.kept.0)
+          spread_set r w.0.taken (sym w.2.ensures ∙ w.3.taken) (ap length w.9 ∙ w.6.kept.0)
           (λ t. ap (λ (l : List ℕ). bit l t) w.9 ∙ w.6.ensures t))
-          (⊎_elim (λ w. spread-unset r w.4 (sym w.2.ensures ∙ w.3.left)) (λ w. spread-other r w.1 w.0.left)) c.if1.branch,
+          (⊎_elim (λ w. spread_unset r w.4 (sym w.2.ensures ∙ w.3.left)) (λ w. spread_other r w.1 w.0.left)) c.if1.branch,
     )
 
 same_length : tie.Need-same-length invariant-loop decreases-loop

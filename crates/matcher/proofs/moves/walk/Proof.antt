@@ -6,16 +6,16 @@ use mathlib.Core.Path.{sym, ◌∙◌}
 use mathlib.Core.List.{List}
 use lib.ListN.{length, get_or}
 use borrow.Author.Tests.{not-true, not-false}
-use Rattle.theory.specs.Arcs.{Arcs, arc-columns, counted}
+use Rattle.theory.specs.Arcs.{Arcs, arc_columns, counted}
 use Rattle.theory.specs.Record.{Work, work}
-use Rattle.columns.proofs.ByteAt.{ByteAt, step-byte, step_end}
-use Rattle.matcher.proofs.Walk.{SameWork, same-work, inside, so_far, Walk, Turn, walk_at, walk_start, walk-whole, one_byte, walk_more, walk-dead}
+use Rattle.columns.proofs.ByteAt.{ByteAt, step_byte, step_end}
+use Rattle.matcher.proofs.Walk.{SameWork, same_work, inside, so_far, Walk, Turn, walk_at, walk_start, walk_whole, one_byte, walk_more, walk_dead}
 use Rattle.matcher.proofs.moves.walk.Statement.{statement}
 use Rattle.matcher.proofs.moves.walk.Tie as tie
 
 abbrev invariant-loop : tie.invariant-loop
 invariant-loop states arcs from letter to «record» current₀ next₀ words cursor₀ current next cursor =
-    SameWork (work current₀ next₀) (work current next) × Walk (counted arcs (arc-columns from letter to)) «record» (work current next) cursor.at
+    SameWork (work current₀ next₀) (work current next) × Walk (counted arcs (arc_columns from letter to)) «record» (work current next) cursor.at
 
 abbrev decreases-loop : tie.decreases-loop
 decreases-loop states arcs from letter to «record» current₀ next₀ words cursor₀ current next cursor = length «record» - cursor.at
@@ -54,8 +54,8 @@ turned c = c.before.before.before
 abbrev begin : tie.At-loop invariant-loop decreases-loop → tie.Start invariant-loop decreases-loop
 begin c = entry (lent c)
 
-abbrev arcs-of : tie.Start invariant-loop decreases-loop → Arcs
-arcs-of c = counted c.args.arcs (arc-columns c.args.from.now c.args.letter.now c.args.to.now)
+abbrev arcs_of : tie.Start invariant-loop decreases-loop → Arcs
+arcs_of c = counted c.args.arcs (arc_columns c.args.from.now c.args.letter.now c.args.to.now)
 
 abbrev bytes : tie.At-loop invariant-loop decreases-loop → List ℕ
 bytes c = (begin c).args.«record».now
@@ -71,12 +71,12 @@ work-turned c = work c.turn.new.1.0 c.turn.new.1.1.0
 
 -- A byte is read.
 read : (c : tie.After-byte invariant-loop decreases-loop) → ByteAt (bytes (head c)) (place (head c)) c.byte.given.0.0 c.byte.given.0.1.0
-read c = step-byte (bytes (head c)) (place (head c)) c.before.before.step.ensures c.byte.given.1
+read c = step_byte (bytes (head c)) (place (head c)) c.before.before.step.ensures c.byte.given.1
 
 -- The states that it leads to are set.
 moved_on : (c : tie.After-turn invariant-loop decreases-loop)
     → let at = head (reading c) in
-    Turn (arcs-of (begin at)) (so_far (arcs-of (begin at)) (bytes at) (place at)) (get_or (bytes at) (place at) 0) (work-turned c) c.turn.result
+    Turn (arcs_of (begin at)) (so_far (arcs_of (begin at)) (bytes at) (place at)) (get_or (bytes at) (place at) 0) (work-turned c) c.turn.result
 moved_on c =
     let at = head (reading c) in
     let spread = (spreading c).spread in
@@ -94,16 +94,16 @@ kept c =
 
 -- ---- The needs
 
-few-states : tie.Need-words-requires invariant-loop decreases-loop
-few-states c κs = omega (arith, (entry c).requires.0.few-states)
+few_states : tie.Need-words-requires invariant-loop decreases-loop
+few_states c κs = omega (arith, (entry c).requires.0.few_states)
 
 loop-holds : tie.Need-loop-init invariant-loop decreases-loop
-loop-holds c = (same-work, walk_at (sym c.start.ensures) (walk_start (entry c.before.before).pre.1))
+loop-holds c = (same_work, walk_at (sym c.start.ensures) (walk_start (entry c.before.before).pre.1))
 
 whole : tie.Need-returns invariant-loop decreases-loop
 whole c =
     let at = c.before.before.before in
-    walk-whole at.loop.invariant.1 (step_end (bytes at) (place at) c.before.before.step.ensures c.enum_told.given.1)
+    walk_whole at.loop.invariant.1 (step_end (bytes at) (place at) c.before.before.step.ensures c.enum_told.given.1)
 
 spread-requires : tie.Need-spread-requires invariant-loop decreases-loop
 spread-requires c κs = let at = head c.before.before.before in inside (begin at).pre.0 at.loop.inv.0
@@ -120,7 +120,7 @@ dead : tie.Need-returns-2 invariant-loop decreases-loop
 dead c =
     let turn = (turned c.before).before in
     let at = head (reading turn) in
-    walk-dead at.loop.inv.1 (read (reading turn)).inside (moved_on turn) (not-true _ c.if1.true)
+    walk_dead at.loop.inv.1 (read (reading turn)).inside (moved_on turn) (not-true _ c.if1.true)
 
 loop-less : tie.Need-loop-smaller invariant-loop decreases-loop
 loop-less c =
@@ -137,6 +137,6 @@ loop-again c =
 pub walk-spec : {M : Type 1} → statement M
 walk-spec =
     tie.close
-    (tie.spec invariant-loop decreases-loop few-states (λ c κs. search rules) loop-holds (λ c κs. search rules) (λ c. search rules) (λ c. search rules)
+    (tie.spec invariant-loop decreases-loop few_states (λ c κs. search rules) loop-holds (λ c κs. search rules) (λ c. search rules) (λ c. search rules)
     (λ c. c.before.before.before.loop.invariant.0.current) (λ c. c.before.before.before.loop.invariant.0.next) whole spread-requires turn-requires
     (λ c. (kept (turned c.before).before).current) (λ c. (kept (turned c.before).before).next) dead loop-less loop-again)

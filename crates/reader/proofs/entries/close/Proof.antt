@@ -5,8 +5,8 @@ use mathlib.Core.Path.{refl, ◌∙◌, sym}
 use mathlib.Core.Logic.{inl}
 use Rattle.theory.specs.Table.{table}
 use Rattle.columns.specs.Row.{as_row}
-use Rattle.reader.proofs.Laid.{left-by-call}
-use Rattle.columns.proofs.ByteAt.{ByteAt, step_end, step-byte}
+use Rattle.reader.proofs.Laid.{left_by_call}
+use Rattle.columns.proofs.ByteAt.{ByteAt, step_end, step_byte}
 use Rattle.reader.proofs.Stepped.{close_at}
 use Rattle.reader.proofs.entries.close.Statement.{statement}
 use Rattle.reader.proofs.entries.close.Tie as tie
@@ -27,7 +27,7 @@ home c = c.before.before.before
 
 stepped : (c : tie.After-byte)
     → let a = (start c.before.before).args in ByteAt a.text.now a.at.cursor.at c.byte.given.0.0 c.byte.given.0.1.0
-stepped c = step-byte _ _ c.before.before.step.ensures c.byte.given.1
+stepped c = step_byte _ _ c.before.before.step.ensures c.byte.given.1
 
 -- ---- The needs
 
@@ -45,7 +45,7 @@ closed c =
     let byte = (closing called.before).before.before in
     let a = (start byte.before.before).args in
     close_at (stepped byte) (closing called.before).if1.true a.at.room a.at.made (as_row a.row)
-    (table a.kind.now a.left.now a.right.now) called.entry.result (left-by-call called.entry.last.1.1) called.entry.ensures
+    (table a.kind.now a.left.now a.right.now) called.entry.result (left_by_call called.entry.last.1.1) called.entry.ensures
 
 not-closed : tie.Need-returns-3
 not-closed c = (refl, inl (refl, λ l e. c.if1.false (sym (stepped c.before.before).here ∙ e)))

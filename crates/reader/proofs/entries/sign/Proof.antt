@@ -3,9 +3,9 @@ use borrow.Author.Rules.{rules}
 use native.Mathlib.Omega.{arith}
 use mathlib.Core.Path.{refl, sym, ◌∙◌}
 use Rattle.theory.specs.Expression.{union, concatenation, shuffle}
-use Rattle.theory.specs.Table.{kind-of-sign}
-use Rattle.theory.specs.Grammar.{sign-byte}
-use Rattle.columns.proofs.ByteAt.{ByteAt, step_end, step-byte}
+use Rattle.theory.specs.Table.{kind_of_sign}
+use Rattle.theory.specs.Grammar.{sign_byte}
+use Rattle.columns.proofs.ByteAt.{ByteAt, step_end, step_byte}
 use Rattle.reader.proofs.Stepped.{sign_at, no_sign}
 use Rattle.reader.proofs.entries.sign.Statement.{statement}
 use Rattle.reader.proofs.entries.sign.Tie as tie
@@ -15,7 +15,7 @@ start c = c.before.before
 
 stepped : (c : tie.After-byte)
     → let a = (start c.before.before).args in ByteAt a.text.now a.cursor.at c.byte.given.0.0 c.byte.given.0.1.0
-stepped c = step-byte _ _ c.before.before.step.ensures c.byte.given.1
+stepped c = step_byte _ _ c.before.before.step.ensures c.byte.given.1
 
 text-ended : tie.Need-returns
 text-ended c =
@@ -23,15 +23,15 @@ text-ended c =
     (refl, refl, λ g l e. omega arith)
 
 plus : tie.Need-returns-2
-unfolding kind-of-sign sign-byte
+unfolding kind_of_sign sign_byte
 plus c = sign_at union (stepped c.before.before) c.match2.keys1
 
 dot : tie.Need-returns-3
-unfolding kind-of-sign sign-byte
+unfolding kind_of_sign sign_byte
 dot c = sign_at concatenation (stepped c.before.before) c.match2.keys2
 
 ampersand : tie.Need-returns-4
-unfolding kind-of-sign sign-byte
+unfolding kind_of_sign sign_byte
 ampersand c = sign_at shuffle (stepped c.before.before) c.match2.keys3
 
 unsigned : tie.Need-returns-5

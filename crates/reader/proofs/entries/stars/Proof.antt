@@ -11,10 +11,10 @@ use Rattle.columns.specs.declared.Cursor.{Cursor}
 use Rattle.reader.specs.declared.entries.Found.{Found}
 use Rattle.reader.specs.declared.entries.Found.TheVariants.{Value}
 use Rattle.reader.specs.Found.{Entry, Unstarred}
-use Rattle.reader.proofs.Answers.{star-row}
-use Rattle.reader.proofs.Laid.{left-by-call}
-use Rattle.columns.proofs.ByteAt.{ByteAt, step_end, step-byte}
-use Rattle.reader.proofs.Stars.{Starred, starred-answers, starred-more}
+use Rattle.reader.proofs.Answers.{star_row}
+use Rattle.reader.proofs.Laid.{left_by_call}
+use Rattle.columns.proofs.ByteAt.{ByteAt, step_end, step_byte}
+use Rattle.reader.proofs.Stars.{Starred, starred_answers, starred_more}
 use Rattle.reader.proofs.entries.stars.Statement.{statement}
 use Rattle.reader.proofs.entries.stars.Tie as tie
 
@@ -52,20 +52,20 @@ entered c = (home c).before.before.before
 
 stepped : (c : tie.After-byte invariant-loop decreases-loop)
     → ByteAt (start (head c)).args.text.now (head c).loop.cursor.at c.byte.given.0.0 c.byte.given.0.1.0
-stepped c = step-byte _ _ c.before.before.step.ensures c.byte.given.1
+stepped c = step_byte _ _ c.before.before.step.ensures c.byte.given.1
 
 -- What `entry` owes of the star's row.
 abbrev star-owes : tie.After-entry invariant-loop decreases-loop → Found → Table → Type 0
 star-owes c =
     let l = (head (read c)).loop in
-    Entry (start (head (read c))).args.at.room l.made (read c).byte.given.0.1.0 (star-row l.made ∷ []) (table l.kind l.left l.right)
+    Entry (start (head (read c))).args.at.room l.made (read c).byte.given.0.1.0 (star_row l.made ∷ []) (table l.kind l.left l.right)
 
 made-star : (c : tie.After-star invariant-loop decreases-loop)
     → let called = entered c.before.before in
-    star-owes called (Value c.star.given.0.0 c.star.given.0.1.0) (left-by-call called.entry.last.1.1)
+    star-owes called (Value c.star.given.0.0 c.star.given.0.1.0) (left_by_call called.entry.last.1.1)
 made-star c =
     let called = entered c.before.before in
-    subst (λ (r : Found). star-owes called r (left-by-call called.entry.last.1.1)) c.star.given.1 called.entry.ensures
+    subst (λ (r : Found). star-owes called r (left_by_call called.entry.last.1.1)) c.star.given.1 called.entry.ensures
 
 -- ---- The needs
 
@@ -86,21 +86,21 @@ star-refused : tie.Need-returns-3 invariant-loop decreases-loop
 star-refused c =
     let called = entered c.before.before in
     let l = head (read called) in (
-      starred-answers l.loop.inv (stepped (read called)) (starring called.before).if1.left called.entry.result
-          (left-by-call called.entry.last.1.1) called.entry.ensures,
+      starred_answers l.loop.inv (stepped (read called)) (starring called.before).if1.left called.entry.result
+          (left_by_call called.entry.last.1.1) called.entry.ensures,
       subst (Unstarred (start l).args.text.now) (sym c.enum-told2.given.1) tt,
     )
 
 loop-less : tie.Need-loop-smaller invariant-loop decreases-loop
 loop-less c =
     let byte = stepped (read (entered c.before.before.before)) in
-    let next-at = ap (λ (q : Cursor). q.at) (made-star c.before).2 in
-    omega (arith, next-at, byte.inside, byte.next)
+    let next_at = ap (λ (q : Cursor). q.at) (made-star c.before).2 in
+    omega (arith, next_at, byte.inside, byte.next)
 
 loop-again : tie.Need-loop-preserved invariant-loop decreases-loop
 loop-again c =
     let called = entered c.before.before.before in
-    starred-more (head (read called)).loop.inv (stepped (read called)) (starring called.before).if1.left (made-star c.before)
+    starred_more (head (read called)).loop.inv (stepped (read called)) (starring called.before).if1.left (made-star c.before)
 
 pub stars-spec : {M : Type 1} → statement M
 stars-spec =

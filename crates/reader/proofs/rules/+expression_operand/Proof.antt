@@ -7,7 +7,7 @@ use Rattle.reader.proofs.rules.+expression_operand.{statement}
 use Rattle.reader.proofs.rules.+expression_operand.Tie.{close}
 use Claims.{μ-expression, μ-operand}
 use Expression.{operand-refused, stars-asked, expression-read}
-use Operand.{text-ended, no-leaf, entry-asked, leaf-entered, too-deep, left-asked, left-not-read, no_sign, right-asked, right-not-read, kind_fits, close-asked, kind-kept, left-kept, right_kept, pair_read, both-made}
+use Operand.{text-ended, no-leaf, entry-asked, leaf-entered, too_deep, left-asked, left-not-read, no_sign, right-asked, right-not-read, kind_fits, close-asked, kind_kept, left_kept, right_kept, pair_read, both-made}
 mod Claims
 mod Places
 mod Expression
@@ -24,7 +24,7 @@ pub +expression-operand-spec : {M : Type 1} → statement M
     (λ c κs. search rules) (λ c. search rules) (λ c. search rules) (no-leaf t)
     (entry-asked t)
     (λ c. search rules) (λ c. search rules) (λ c. search rules) (leaf-entered t)
-    (too-deep t)
+    (too_deep t)
     (λ c. search rules)
     (left-asked t)
     (λ c. search rules) (λ c. search rules)
@@ -38,4 +38,4 @@ pub +expression-operand-spec : {M : Type 1} → statement M
     (λ c. omega (arith, both-made t c.before)) (λ c. omega (arith, both-made t c.before))
     (λ c. omega (arith, both-made t c.before)) (λ c. omega (arith, both-made t c.before))
     (close-asked t)
-    (kind-kept t) (left-kept t) (right_kept t) (pair_read t))
+    (kind_kept t) (left_kept t) (right_kept t) (pair_read t))

@@ -4,9 +4,9 @@ use native.Mathlib.Omega.{arith}
 use mathlib.Core.Path.{sym, ap, ◌∙◌}
 use Rattle.theory.specs.Table.{Table, table}
 use Rattle.reader.specs.declared.entries.Point.{Point}
-use Rattle.reader.proofs.Laid.{left-by-call}
-use Rattle.columns.proofs.ByteAt.{ByteAt, step_end, step-byte}
-use Rattle.reader.proofs.Whole.{begun-empty, begun-∅, begun-expression}
+use Rattle.reader.proofs.Laid.{left_by_call}
+use Rattle.columns.proofs.ByteAt.{ByteAt, step_end, step_byte}
+use Rattle.reader.proofs.Whole.{begun_empty, begun_∅, begun_expression}
 use Rattle.reader.proofs.rules.beginning.Statement.{statement}
 use Rattle.reader.proofs.rules.beginning.Tie as tie
 
@@ -35,14 +35,14 @@ expression-home c = c.before.before.before
 
 stepped : (c : tie.After-byte)
     → let a = (entered c.before.before).args in ByteAt a.text.now a.at.cursor.at c.byte.given.0.0 c.byte.given.0.1.0
-stepped c = step-byte _ _ c.before.before.step.ensures c.byte.given.1
+stepped c = step_byte _ _ c.before.before.step.ensures c.byte.given.1
 
 -- ---- The needs
 
 text-empty : tie.Need-returns
 text-empty c =
     let s = entered c.before.before in
-    begun-empty s.args.at.room s.args.text.now s.args.at s.pre.1
+    begun_empty s.args.at.room s.args.text.now s.args.at s.pre.1
     (step_end s.args.text.now _ c.before.before.step.ensures c.enum_told.given.1)
 
 entry-asked : tie.Need-entry-requires
@@ -53,8 +53,8 @@ entry-asked c κs = (search rules, omega (arith, (stepped (∅-byte c).before.be
     let called = (entry-home c).before.before.before in
     let byte = (∅-byte called.before).before.before in
     let s = entered byte.before.before in
-    begun-∅ s.args.at.room s.args.text.now (lent s) s.args.at s.pre.1 (stepped byte) (∅-byte called.before).if1.taken
-    called.entry.result (left-by-call called.entry.last.1.1) called.entry.ensures
+    begun_∅ s.args.at.room s.args.text.now (lent s) s.args.at s.pre.1 (stepped byte) (∅-byte called.before).if1.taken
+    called.entry.result (left_by_call called.entry.last.1.1) called.entry.ensures
 
 expression-asked : tie.Need-expression-requires
 expression-asked c κs =
@@ -62,11 +62,11 @@ expression-asked c κs =
     let at = stepped byte in
     let s = entered byte.before.before in
     record {
-      room-left = s.pre.0;
+      room_left = s.pre.0;
       shallow = omega (arith, ap (λ (p : Point). p.depth) s.pre.1);
       within = omega (arith, at.inside);
       fits = omega (arith, ap (λ (p : Point). p.made) s.pre.1);
-      no-∅ = λ _ e. (other_byte c).if1.false (sym at.here ∙ e);
+      no_∅ = λ _ e. (other_byte c).if1.false (sym at.here ∙ e);
     }
 
 expression-read : tie.Need-returns-3
@@ -74,8 +74,8 @@ expression-read c =
     let called = (expression-home c).before.before.before in
     let byte = (other_byte called.before).before.before in
     let s = entered byte.before.before in
-    begun-expression s.args.at.room s.args.text.now (lent s) s.args.at s.pre.1 called.expression.result
-    (left-by-call called.expression.last.1.1) called.expression.ensures.0 called.expression.ensures.1
+    begun_expression s.args.at.room s.args.text.now (lent s) s.args.at s.pre.1 called.expression.result
+    (left_by_call called.expression.last.1.1) called.expression.ensures.0 called.expression.ensures.1
 
 pub beginning-spec : {M : Type 1} → statement M
 beginning-spec =

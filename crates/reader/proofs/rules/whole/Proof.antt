@@ -2,9 +2,9 @@
 use borrow.Author.Rules.{rules}
 use mathlib.Core.Path.{◌≡◌}
 use Rattle.theory.specs.Table.{Table, table}
-use Rattle.reader.proofs.Laid.{left-by-call}
-use Rattle.columns.proofs.ByteAt.{step_end, step-byte}
-use Rattle.reader.proofs.Whole.{whole-refused, whole-broken, whole-ended}
+use Rattle.reader.proofs.Laid.{left_by_call}
+use Rattle.columns.proofs.ByteAt.{step_end, step_byte}
+use Rattle.reader.proofs.Whole.{whole_refused, whole_broken, whole_ended}
 use Rattle.reader.proofs.rules.whole.Statement.{statement}
 use Rattle.reader.proofs.rules.whole.Tie as tie
 
@@ -46,7 +46,7 @@ not-begun : tie.Need-returns
 not-begun c =
     let s = begin c.before.before in
     let called = (begun c.before.before).beginning in
-    whole-refused s.args.room s.args.text.now (lent s) (left-by-call called.last.1.1) called.result c.enum_told.given.1
+    whole_refused s.args.room s.args.text.now (lent s) (left_by_call called.last.1.1) called.result c.enum_told.given.1
     called.ensures
 
 more-follows : tie.Need-returns-2
@@ -54,15 +54,15 @@ more-follows c =
     let read = found c.before.before in
     let s = begin read.before.before in
     let called = (begun read.before.before).beginning in
-    whole-broken s.args.room s.args.text.now (lent s) (left-by-call called.last.1.1) called.result read.found.given.1 called.ensures
-    (step-byte _ _ c.before.before.step.ensures c.enum-told3.given.1)
+    whole_broken s.args.room s.args.text.now (lent s) (left_by_call called.last.1.1) called.result read.found.given.1 called.ensures
+    (step_byte _ _ c.before.before.step.ensures c.enum-told3.given.1)
 
 text-ended : tie.Need-returns-3
 text-ended c =
     let read = found c.before.before in
     let s = begin read.before.before in
     let called = (begun read.before.before).beginning in
-    whole-ended s.args.room s.args.text.now (lent s) (left-by-call called.last.1.1) called.result read.found.given.1 called.ensures
+    whole_ended s.args.room s.args.text.now (lent s) (left_by_call called.last.1.1) called.result read.found.given.1 called.ensures
     (step_end s.args.text.now _ c.before.before.step.ensures c.enum-told2.given.1)
 
 pub whole-spec : {M : Type 1} → statement M

@@ -5,8 +5,8 @@ use mathlib.Core.Path.{sym, subst}
 use lib.ListN.{length}
 use lib.Seq.{length-take-le}
 use Rattle.lines.specs.Input.{Within}
-use Rattle.lines.proofs.WholeLine.{within-column}
-use Rattle.records.proofs.Answering.{answered-none, answered-failed, answered-long, answered-record}
+use Rattle.lines.proofs.WholeLine.{within_column}
+use Rattle.records.proofs.Answering.{answered_none, answered_failed, answered_long, answered_record}
 use Rattle.records.proofs.answers.answer.Statement.{statement}
 use Rattle.records.proofs.answers.answer.Tie as tie
 
@@ -39,23 +39,23 @@ within : tie.Need-slice-aggregate-verdict
 within c =
     let l = c.before.before in
     let s = ended l in
-    sym (length-take-le _ _ (subst (Within (length s.args.column.now)) l.line.given.1 (within-column s.args.line s.pre.1.1.0)))
+    sym (length-take-le _ _ (subst (Within (length s.args.column.now)) l.line.given.1 (within_column s.args.line s.pre.1.1.0)))
 
 no_line : tie.Need-returns
-no_line c = answered-none c.enum_told.given.1
+no_line c = answered_none c.enum_told.given.1
 
 no_read : tie.Need-returns-2
-no_read c = answered-failed c.enum-told2.given.1
+no_read c = answered_failed c.enum-told2.given.1
 
 too_long : tie.Need-returns-3
 too_long c =
-    let l = c.before.before in answered-long l.refused.ensures.1 l.before.before.enum-told3.given.1 l.refused.ensures.0
+    let l = c.before.before in answered_long l.refused.ensures.1 l.before.before.enum-told3.given.1 l.refused.ensures.0
 
 judged : tie.Need-returns-4
 judged c =
     let put = c.before.before in
     let v = called put.before in
-    answered-record put.verdict2.ensures.1 v.verdict.result (lending v).before.before.line.given.1 v.verdict.ensures
+    answered_record put.verdict2.ensures.1 v.verdict.result (lending v).before.before.line.given.1 v.verdict.ensures
     put.verdict2.ensures.0
 
 pub answer-spec : {M : Type 1} → statement M

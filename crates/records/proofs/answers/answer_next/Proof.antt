@@ -5,7 +5,7 @@ use lib.ListN.{length}
 use Rattle.lines.specs.Input.{TookWhole}
 use Rattle.lines.specs.Turn.{Left}
 use Rattle.lines.proofs.WholeLine.{whole}
-use Rattle.lines.proofs.Waiting.{asks-as, unasked}
+use Rattle.lines.proofs.Waiting.{asks_as, unasked}
 use Rattle.records.proofs.Turning.{answers, no_line, failed as read-failed}
 use Rattle.records.proofs.answers.answer_next.Statement.{statement}
 use Rattle.records.proofs.answers.answer_next.Tie as tie
@@ -57,7 +57,7 @@ Asked c =
     × TookWhole s.taken.now s.input c.line.given.0.0 a.ask.last.0 a.ask.last.1.1.0
 
 asks : (c : tie.After-line) → Asked c
-asks c = asks-as c.line.given.1 (asked c).ask.ensures
+asks c = asks_as c.line.given.1 (asked c).ask.ensures
 
 -- ---- The needs
 

@@ -2,10 +2,10 @@
 use borrow.Author.Rules.{rules}
 use mathlib.Core.Path.{◌≡◌, refl, sym, ap, ◌∙◌, subst}
 use Rattle.theory.specs.Report.{Report, report}
-use Rattle.theory.specs.Lines.{report-line}
+use Rattle.theory.specs.Lines.{report_line}
 use Rattle.site.specs.Values.{values as reported}
-use Rattle.site.specs.Totals.{values, with-report, Fits, HasEntry}
-use Rattle.site.proofs.Reporting.{made-reports, has-entry}
+use Rattle.site.specs.Totals.{values, with_report, Fits, HasEntry}
+use Rattle.site.proofs.Reporting.{made_reports, has_entry}
 use Rattle.rooms.proofs.Answering.{put_as}
 use Rattle.rooms.proofs.answers.answer.Statement.{statement}
 use Rattle.rooms.proofs.answers.answer.Tie as tie
@@ -32,10 +32,10 @@ said c = c.before.before
 
 -- What the text came to is its report.
 reports : (c : tie.After-automaton) → reported c.automaton.result ≡ report (start c).args.text.now
-reports c = made-reports (record { states = refl; from = refl; letter = refl; to = refl }) c.automaton.ensures
+reports c = made_reports (record { states = refl; from = refl; letter = refl; to = refl }) c.automaton.ensures
 
 told : (c : tie.After-automaton) → HasEntry (reported c.automaton.result)
-told c = has-entry c.automaton.ensures
+told c = has_entry c.automaton.ensures
 
 -- ---- The needs
 
@@ -43,7 +43,7 @@ with-asked : tie.Need-with-requires
 with-asked c κs =
     let a = made c in
     let s = start a in
-    (told a, subst (λ (r : Report). Fits (with-report (values s.args.totals) r)) (sym (reports a)) s.pre.0)
+    (told a, subst (λ (r : Report). Fits (with_report (values s.args.totals) r)) (sym (reports a)) s.pre.0)
 
 returns : tie.Need-returns
 returns c =
@@ -51,9 +51,9 @@ returns c =
     let w = (said c).before.before in
     let a = made w.before in
     record {
-      put = put_as (ap report-line (sym (reports a))) l.ensures.0;
+      put = put_as (ap report_line (sym (reports a))) l.ensures.0;
       short = l.ensures.1;
-      adds = w.with.ensures ∙ ap (with-report (values (start a).args.totals)) (reports a);
+      adds = w.with.ensures ∙ ap (with_report (values (start a).args.totals)) (reports a);
     }
 
 pub answer-spec : {M : Type 1} → statement M

@@ -5,9 +5,9 @@ use mathlib.Core.Path.{refl, ◌∙◌}
 use lib.ListN.{length}
 use Rattle.lines.specs.Input.{TookWhole}
 use Rattle.lines.specs.Turn.{Left}
-use Rattle.lines.proofs.Waiting.{asks-as, unasked}
-use Rattle.lines.proofs.WholeLine.{took, no-line-waits, failed-waits}
-use Rattle.rooms.proofs.Answering.{all_shown, turned-ended, turned-full}
+use Rattle.lines.proofs.Waiting.{asks_as, unasked}
+use Rattle.lines.proofs.WholeLine.{took, no_line_waits, failed_waits}
+use Rattle.rooms.proofs.Answering.{all_shown, turned_ended, turned_full}
 use Rattle.rooms.proofs.answers.answer_next.Statement.{statement}
 use Rattle.rooms.proofs.answers.answer_next.Tie as tie
 
@@ -52,7 +52,7 @@ Asked c =
     × TookWhole s.taken.now s.input c.line.given.0.0 a.ask.last.0 a.ask.last.1.1.0
 
 asks : (c : tie.After-line) → Asked c
-asks c = asks-as c.line.given.1 (asked c).ask.ensures
+asks c = asks_as c.line.given.1 (asked c).ask.ensures
 
 -- ---- The needs
 
@@ -78,13 +78,13 @@ none : tie.Need-returns-2
 none c =
     let k = asks c.before.before.before in
     let t = took c.enum-told2.given.1 k.1 in
-    record { turns = (t.holds, all_shown k.0 (no-line-waits t), refl) }
+    record { turns = (t.holds, all_shown k.0 (no_line_waits t), refl) }
 
 failed : tie.Need-returns-3
 failed c =
     let k = asks c.before.before.before in
     let t = took c.enum-told3.given.1 k.1 in
-    record { turns = (t.holds, all_shown k.0 (failed-waits t), refl) }
+    record { turns = (t.holds, all_shown k.0 (failed_waits t), refl) }
 
 ended : tie.Need-returns-4
 ended c =
@@ -92,7 +92,7 @@ ended c =
     let b = a.before.before in
     let e = ended-bytes b in
     let k = asks (of-ended e) in
-    turned-ended k.0 k.1 a.answer.ensures e.line2.given.1 b.bytes.ensures
+    turned_ended k.0 k.1 a.answer.ensures e.line2.given.1 b.bytes.ensures
 
 full : tie.Need-returns-5
 full c =
@@ -101,7 +101,7 @@ full c =
     let e = full-bytes b in
     let l = of-full e in
     let k = asks l in
-    turned-full k.0 k.1 a.answer2.ensures e.line3.given.1 b.bytes2.ensures ((asked l).ask.kept.1.1.0 ∙ (start (asked l)).requires.0.1)
+    turned_full k.0 k.1 a.answer2.ensures e.line3.given.1 b.bytes2.ensures ((asked l).ask.kept.1.1.0 ∙ (start (asked l)).requires.0.1)
 
 pub answer-next-spec : {M : Type 1} → statement M
 answer-next-spec =

@@ -1,7 +1,7 @@
 -- `line` puts the five numbers, or the refusal.
 use borrow.Author.Rules.{rules}
 use native.Mathlib.Omega.{arith}
-use Rattle.rooms.proofs.Answering.{line_refused, line-built, put_as}
+use Rattle.rooms.proofs.Answering.{line_refused, line_built, put_as}
 use Rattle.rooms.proofs.answers.line.Statement.{statement}
 use Rattle.rooms.proofs.answers.line.Tie as tie
 
@@ -16,7 +16,7 @@ built : tie.Need-returns-2
 built c =
     let r = c.before.before in
     let told = r.before.before.before.before in
-    (put_as (line-built told.site2.given.1) r.row.ensures.0, omega (arith, r.row.ensures.1))
+    (put_as (line_built told.site2.given.1) r.row.ensures.0, omega (arith, r.row.ensures.1))
 
 pub line-spec : {M : Type 1} → statement M
 line-spec =

@@ -3,15 +3,15 @@ use Prim.Native.Nat.{ℕ, ◌-◌}
 use mathlib.Core.Path.{◌≡◌, sym, ap, ◌∙◌}
 use mathlib.Core.List.{List}
 use lib.ListN.{length}
-use Rattle.theory.specs.Table.{table, row, entry-fault}
-use Rattle.table.proofs.Scanning.{Scanning, scan_begins, scan-over, scan-found, scan-ends}
+use Rattle.theory.specs.Table.{table, row, entry_fault}
+use Rattle.table.proofs.Scanning.{Scanning, scan_begins, scan_over, scan_found, scan_ends}
 use borrow.Author.Rules.{rules}
 use Rattle.table.proofs.entry.entries_checked.Statement.{statement}
 use Rattle.table.proofs.entry.entries_checked.Tie as tie
 
 -- What is wrong with each entry.
 abbrev faults : List ℕ → List ℕ → List ℕ → ℕ → ℕ
-faults kind left right i = entry-fault (length kind) i (row (table kind left right) i)
+faults kind left right i = entry_fault (length kind) i (row (table kind left right) i)
 
 abbrev invariant-loop : tie.invariant-loop
 invariant-loop kind left right i₀ i = Scanning (faults kind left right) (length kind) i
@@ -33,7 +33,7 @@ faults-lent c = let a = (begun c).before.args in faults a.kind.now a.left.now a.
 
 -- The number is the fault of entry i.
 number_is : (c : tie.After-fault invariant-loop decreases-loop) → c.fault.result ≡ faults-lent (turn c).before (turn c).before.loop.i
-number_is c = c.fault.ensures ∙ ap (entry-fault _ _) c.before.row_at.ensures
+number_is c = c.fault.ensures ∙ ap (entry_fault _ _) c.before.row_at.ensures
 
 -- ---- The needs
 
@@ -49,7 +49,7 @@ fault-requires c κs = search rules
 returns : tie.Need-returns invariant-loop decreases-loop
 returns c =
     let t = turn c.before in
-    scan-found _ _ _ _ t.before.loop.inv t.loop-test.taken (number_is c.before) c.if1.true
+    scan_found _ _ _ _ t.before.loop.inv t.loop-test.taken (number_is c.before) c.if1.true
 
 add-i : tie.Need-overflow-add-i invariant-loop decreases-loop
 add-i c = search rules
@@ -60,10 +60,10 @@ loop-less c = search rules
 loop-again : tie.Need-loop-preserved invariant-loop decreases-loop
 loop-again c =
     let t = turn c.before in
-    scan-over _ _ _ t.before.loop.inv t.loop-test.taken (sym (number_is c.before) ∙ c.if1.false)
+    scan_over _ _ _ t.before.loop.inv t.loop-test.taken (sym (number_is c.before) ∙ c.if1.false)
 
 returns-2 : tie.Need-returns-2 invariant-loop decreases-loop
-returns-2 c = scan-ends _ _ _ c.before.loop.invariant c.loop-test.false
+returns-2 c = scan_ends _ _ _ c.before.loop.invariant c.loop-test.false
 
 pub entries-checked-spec : {M : Type 1} → statement M
 entries-checked-spec =

@@ -2,32 +2,32 @@
 use borrow.Author.Rules.{rules}
 use borrow.Author.Tests.{lt-ltb, le-ltb, eq-eqb, ne_eqb}
 use mathlib.Core.Logic.{⊎_elim}
-use Rattle.theory.specs.Table.{entry-fault}
+use Rattle.theory.specs.Table.{entry_fault}
 use Rattle.table.proofs.entry.fault.Statement.{statement}
 use Rattle.table.proofs.entry.fault.Tie as tie
 
 returns : tie.Need-returns
-unfolding entry-fault
+unfolding entry_fault
 returns c = simp (lt-ltb _ _ c.if1.taken)
 
 fields-fit-requires : tie.Need-fields-fit-requires
 fields-fit-requires c κs = search rules
 
 returns-2 : tie.Need-returns-2
-unfolding entry-fault
+unfolding entry_fault
 returns-2 c = simp (le-ltb _ _ c.before.before.if1.left, ← c.before.fields_fit.ensures, c.if2.taken)
 
 children-smaller-requires : tie.Need-children-smaller-requires
 children-smaller-requires c κs = search rules
 
 returns-3 : tie.Need-returns-3
-unfolding entry-fault
+unfolding entry_fault
 returns-3 c =
     let f = c.before.before.before in
     simp (le-ltb _ _ f.before.if1.left, ← f.fields_fit.ensures, c.before.before.if2.left, ← c.before.children-smaller.ensures, c.if3.taken)
 
 returns-4 : tie.Need-returns-4
-unfolding entry-fault
+unfolding entry_fault
 returns-4 c =
     let d = c.before.before in
     let f = d.before.before.before in
@@ -42,7 +42,7 @@ returns-4 c =
     )
 
 returns-5 : tie.Need-returns-5
-unfolding entry-fault
+unfolding entry_fault
 returns-5 c =
     let d = c.before in
     let f = d.before.before.before in

@@ -3,16 +3,16 @@ use Prim.Native.Nat.{◌-◌, pred}
 use native.Mathlib.Omega.{arith}
 use mathlib.Core.Path.{sym, ◌∙◌}
 use lib.ListN.{length}
-use Rattle.theory.specs.Refusal.{not-named-once}
-use Rattle.theory.specs.Table.{table, naming-fault}
-use Rattle.theory.proofs.Times.{fault-none, fault-found}
-use Rattle.table.proofs.Scanning.{Scanning, scan_begins, scan-over, scan-found, scan-ends}
+use Rattle.theory.specs.Refusal.{not_named_once}
+use Rattle.theory.specs.Table.{table, naming_fault}
+use Rattle.theory.proofs.Times.{fault_none, fault_found}
+use Rattle.table.proofs.Scanning.{Scanning, scan_begins, scan_over, scan_found, scan_ends}
 use borrow.Author.Rules.{rules}
 use Rattle.table.proofs.naming.naming_checked.Statement.{statement}
 use Rattle.table.proofs.naming.naming_checked.Tie as tie
 
 abbrev invariant-loop : tie.invariant-loop
-invariant-loop kind left right i₀ i = Scanning (naming-fault (table kind left right)) (pred (length kind)) i
+invariant-loop kind left right i₀ i = Scanning (naming_fault (table kind left right)) (pred (length kind)) i
 
 abbrev decreases-loop : tie.decreases-loop
 decreases-loop kind left right i₀ i = length kind - i
@@ -28,8 +28,8 @@ times-named-requires c κs = search rules
 
 returns : tie.Need-returns invariant-loop decreases-loop
 returns c =
-    scan-found _ _ _ not-named-once c.before.before.before.loop.invariant (omega arith)
-    (sym (fault-found _ _ (λ e. c.if1.true (c.before.times-named.ensures ∙ e)))) (omega arith)
+    scan_found _ _ _ not_named_once c.before.before.before.loop.invariant (omega arith)
+    (sym (fault_found _ _ (λ e. c.if1.true (c.before.times-named.ensures ∙ e)))) (omega arith)
 
 add-i : tie.Need-overflow-add-i invariant-loop decreases-loop
 add-i c = search rules
@@ -38,10 +38,10 @@ loop-less : tie.Need-loop-smaller invariant-loop decreases-loop
 loop-less c = search rules
 
 loop-again : tie.Need-loop-preserved invariant-loop decreases-loop
-loop-again c = scan-over _ _ _ c.before.before.before.loop.invariant (omega arith) (fault-none _ _ (sym c.before.times-named.ensures ∙ c.if1.false))
+loop-again c = scan_over _ _ _ c.before.before.before.loop.invariant (omega arith) (fault_none _ _ (sym c.before.times-named.ensures ∙ c.if1.false))
 
 returns-2 : tie.Need-returns-2 invariant-loop decreases-loop
-returns-2 c = scan-ends _ _ _ c.before.loop.invariant (omega arith)
+returns-2 c = scan_ends _ _ _ c.before.loop.invariant (omega arith)
 
 pub naming-checked-spec : {M : Type 1} → statement M
 naming-checked-spec =

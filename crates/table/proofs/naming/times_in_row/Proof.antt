@@ -5,8 +5,8 @@ use mathlib.Core.List.{[], ◌∷◌}
 use borrow.Author.Rules.{rules}
 use native.Mathlib.Omega.{arith}
 use Rattle.theory.specs.Table.{times}
-use Rattle.theory.proofs.Times.{times-append, times-length}
-use Rattle.columns.specs.Row.{as-children}
+use Rattle.theory.proofs.Times.{times_append, times_length}
+use Rattle.columns.specs.Row.{as_children}
 use Rattle.table.proofs.naming.times_in_row.Statement.{statement}
 use Rattle.table.proofs.naming.times_in_row.Tie as tie
 
@@ -46,24 +46,24 @@ add-result c =
     let told = two c.before in
     let (l, (r, _)) = told.left.given.0 in
     let i = told.before.before.before.args.i in
-    omega (arith, c.before.times-as2.ensures, c.times-as3.ensures, times-length i (l ∷ []), times-length i (r ∷ []))
+    omega (arith, c.before.times-as2.ensures, c.times-as3.ensures, times_length i (l ∷ []), times_length i (r ∷ []))
 
 returns : tie.Need-returns
 unfolding times
-returns c = let named = c.before.before.children.ensures in ap (times _) (ap as-children (sym c.enum_told.given.1) ∙ named)
+returns c = let named = c.before.before.children.ensures in ap (times _) (ap as_children (sym c.enum_told.given.1) ∙ named)
 
 returns-2 : tie.Need-returns-2
 returns-2 c =
     let told = one c in
     let named = told.before.before.children.ensures in
-    c.times-as.ensures ∙ ap (times _) (ap as-children (sym told.child.given.1) ∙ named)
+    c.times-as.ensures ∙ ap (times _) (ap as_children (sym told.child.given.1) ∙ named)
 
 returns-3 : tie.Need-returns-3
 returns-3 c =
     let told = two c.before in
     let named = told.before.before.children.ensures in
-    ap₂ ◌+◌ c.before.times-as2.ensures c.times-as3.ensures ∙ sym (times-append _ (told.left.given.0.0 ∷ []) (told.left.given.0.1.0 ∷ []))
-    ∙ ap (times _) (ap as-children (sym told.left.given.1) ∙ named)
+    ap₂ ◌+◌ c.before.times-as2.ensures c.times-as3.ensures ∙ sym (times_append _ (told.left.given.0.0 ∷ []) (told.left.given.0.1.0 ∷ []))
+    ∙ ap (times _) (ap as_children (sym told.left.given.1) ∙ named)
 
 pub times-in-row-spec : {M : Type 1} → statement M
 times-in-row-spec =

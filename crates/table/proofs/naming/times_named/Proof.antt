@@ -3,8 +3,8 @@ use Prim.Native.Nat.{ℕ, ◌+◌, ◌-◌, ◌≤◌}
 use native.Mathlib.Omega.{arith}
 use mathlib.Core.Path.{◌≡◌, refl, sym, ap, ap₂, ◌∙◌}
 use lib.ListN.{length}
-use Rattle.theory.specs.Table.{Table, table, row, row-children, times, named}
-use Rattle.theory.proofs.Times.{named_more, named-bound, times-row}
+use Rattle.theory.specs.Table.{Table, table, row, row_children, times, named}
+use Rattle.theory.proofs.Times.{named_more, named_bound, times_row}
 use borrow.Author.Rules.{rules}
 use Rattle.table.proofs.naming.times_named.Statement.{statement}
 use Rattle.table.proofs.naming.times_named.Tie as tie
@@ -41,14 +41,14 @@ times-in-row-requires c κs = search rules
 
 -- What row j adds.
 row_is : (c : tie.After-times-in-row invariant-loop decreases-loop)
-    → c.times-in-row.result ≡ times (begun (turn c)).before.args.i (row-children (row (given (turn c)) (turn c).loop.j))
-row_is c = c.times-in-row.ensures ∙ ap (times _) (ap row-children c.before.row_at.ensures)
+    → c.times-in-row.result ≡ times (begun (turn c)).before.args.i (row_children (row (given (turn c)) (turn c).loop.j))
+row_is c = c.times-in-row.ensures ∙ ap (times _) (ap row_children c.before.row_at.ensures)
 
 add_times : tie.Need-overflow-add-times invariant-loop decreases-loop
 add_times c =
     let t = turn c in
     let i = (begun t).before.args.i in
-    omega (arith, row_is c, named-bound (given t) i t.loop.j, times-row i (row (given t) t.loop.j))
+    omega (arith, row_is c, named_bound (given t) i t.loop.j, times_row i (row (given t) t.loop.j))
 
 add-j : tie.Need-overflow-add-j invariant-loop decreases-loop
 add-j c = search rules

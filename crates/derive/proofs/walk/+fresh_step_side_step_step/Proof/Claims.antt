@@ -20,10 +20,10 @@ use Rattle.derive.proofs.walk.step.Reads as step
 use Rattle.derive.proofs.walk.step.Kinds as step-kinds
 use Rattle.derive.proofs.walk.+fresh_step_side_step_step.Lts-step as step-lts
 use Rattle.columns.proofs.row_at.Reads as row_at
-use Rattle.derive.proofs.sides.left_side.Reads as left-side
+use Rattle.derive.proofs.sides.left_side.Reads as left_side
 use Rattle.derive.proofs.sides.lift.Reads as lift
 use Rattle.derive.proofs.sides.right_side.Reads as right_side
-use Rattle.derive.proofs.walk.letter_step.Reads as letter-step
+use Rattle.derive.proofs.walk.letter_step.Reads as letter_step
 use Rattle.derive.proofs.walk.lower_place.Reads as lower-place
 use Rattle.derive.proofs.walk.place_has.Reads as place-has
 use Rattle.derive.proofs.walk.reached.Reads as reached
@@ -55,8 +55,8 @@ side-at t = and 3 side-kinds.ps (is 3 side-kinds.ps μ-side t) side.Pre
 abbrev pub side-below : ℕ → In 3 side-kinds.ps
 side-below t = and 3 side-kinds.ps (falls 3 side-kinds.ps ◌<◌ μ-side t) side.Pre
 
-abbrev pub step-at : ℕ → In 3 step-kinds.ps
-step-at t = and 3 step-kinds.ps (is 3 step-kinds.ps μ-step t) step.Pre
+abbrev pub step_at : ℕ → In 3 step-kinds.ps
+step_at t = and 3 step-kinds.ps (is 3 step-kinds.ps μ-step t) step.Pre
 
 abbrev pub step-below : ℕ → In 3 step-kinds.ps
 step-below t = and 3 step-kinds.ps (falls 3 step-kinds.ps ◌<◌ μ-step t) step.Pre
@@ -73,10 +73,10 @@ abbrev pub step-claims : ℕ → step-lts.Claims
 step-claims t = (
   row_at.Asked,
   row_at.Learnt,
-  letter-step.Asked,
-  letter-step.Learnt,
-  left-side.Asked,
-  left-side.Learnt,
+  letter_step.Asked,
+  letter_step.Learnt,
+  left_side.Asked,
+  left_side.Learnt,
   right_side.Asked,
   right_side.Learnt,
   place-has.Asked,

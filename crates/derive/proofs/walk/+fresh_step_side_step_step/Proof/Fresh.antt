@@ -7,11 +7,11 @@ use lib.ListN.{length}
 use borrow.Author.Tests.{not-true, not-false}
 use borrow.Fn.Kinds.{In, Out}
 use Rattle.theory.specs.Table.{table}
-use Rattle.derive.specs.Sides.{side-list}
-use Rattle.derive.specs.Walk.{to-come}
-use Rattle.derive.proofs.Coming.{fitted-then}
-use Rattle.derive.proofs.FreshStep.{Passed-over, passed_none, turn-place, turn-side, turn-asks, turn-found, turn-passed, turn-less, turn-ended}
-use Rattle.derive.proofs.Membership.{told-yes, told-no}
+use Rattle.derive.specs.Sides.{side_list}
+use Rattle.derive.specs.Walk.{to_come}
+use Rattle.derive.proofs.Coming.{fitted_then}
+use Rattle.derive.proofs.FreshStep.{PassedOver, passed_none, turn_place, turn_side, turn_asks, turn_found, turn_passed, turn_less, turn_ended}
+use Rattle.derive.proofs.Membership.{told_yes, told_no}
 use Rattle.derive.proofs.walk.+fresh_step_side_step_step.Proof.Claims.{fresh_at, fresh-claims, not_found}
 use Rattle.derive.proofs.walk.fresh_step.Reads as fresh
 use Rattle.derive.proofs.walk.fresh_step.Kinds as kinds
@@ -19,12 +19,12 @@ use Rattle.derive.proofs.walk.+fresh_step_side_step_step.Lts-fresh_step as lts
 
 abbrev pub Inv-loop : lts.invariant-loop
 Inv-loop kind₀ left₀ right₀ used room letter a b at₀ n₀ kind left right at n =
-    Passed-over (table kind₀ left₀ right₀) used room letter a b at₀ (table kind left right) n at
+    PassedOver (table kind₀ left₀ right₀) used room letter a b at₀ (table kind left right) n at
     × (length kind ≡ length kind₀) × (length left ≡ length left₀) × (length right ≡ length right₀)
 
 abbrev pub μ-loop : lts.decreases-loop
 μ-loop kind₀ left₀ right₀ used room letter a b at₀ n₀ kind left right at n =
-    length (to-come (table kind left right) at (side-list letter (table kind₀ left₀ right₀) b))
+    length (to_come (table kind left right) at (side_list letter (table kind₀ left₀ right₀) b))
 
 module _ (t : ℕ) where
   abbrev Here : (lts.Claims → In 3 kinds.ps → Out 3 kinds.ps kinds.r → lts.invariant-loop → lts.decreases-loop → Type 0) → Type 0
@@ -62,27 +62,27 @@ module _ (t : ℕ) where
   side-step-requires c κs =
       let l = (turn c).loop.invariant in
       let s = (entry (turn c).before).pre in
-      (omega (arith, s.0), (fitted-then s.1.0 l.0.came l.1, (turn-side l.0, turn-place l.0)))
+      (omega (arith, s.0), (fitted_then s.1.0 l.0.came l.1, (turn_side l.0, turn_place l.0)))
 
   pub side-has-requires : Here lts.Need-side-has-requires
   side-has-requires c κs =
       let row = (member c).before in
       let step = step-found row in
-      turn-asks (turn step.before).loop.inv.0 step.side-step.ensures row.row.given.1
+      turn_asks (turn step.before).loop.inv.0 step.side-step.ensures row.row.given.1
 
   pub returns : Here lts.Need-returns
   returns c =
       let asked = c.before in
       let row = found asked in
       let step = step-found row in
-      turn-found (turn step.before).loop.inv.0 step.side-step.ensures row.row.given.1
-      (told-no _ (not-true asked.side-has.result c.if1.true) asked.side-has.ensures)
+      turn_found (turn step.before).loop.inv.0 step.side-step.ensures row.row.given.1
+      (told_no _ (not-true asked.side-has.result c.if1.true) asked.side-has.ensures)
 
   pub loop-less : Here lts.Need-loop-smaller
   loop-less c =
       let row = found c.before in
       let step = step-found row in
-      turn-less (turn step.before).loop.inv.0 step.side-step.ensures row.row.given.1
+      turn_less (turn step.before).loop.inv.0 step.side-step.ensures row.row.given.1
 
   pub loop-again : Here lts.Need-loop-preserved
   loop-again c =
@@ -91,8 +91,8 @@ module _ (t : ℕ) where
       let step = step-found row in
       let kept = step.side-step.kept in
       let inv = (turn step.before).loop.inv in (
-        turn-passed inv.0 step.side-step.ensures row.row.given.1
-            (told-yes _ (not-false asked.side-has.result c.if1.false) asked.side-has.ensures),
+        turn_passed inv.0 step.side-step.ensures row.row.given.1
+            (told_yes _ (not-false asked.side-has.result c.if1.false) asked.side-has.ensures),
         kept.0 ∙ inv.1,
         kept.1.0 ∙ inv.2,
         kept.1.1.0 ∙ inv.3,
@@ -101,4 +101,4 @@ module _ (t : ℕ) where
   pub returns-2 : Here lts.Need-returns-2
   returns-2 c =
       let step = stepped c.before in
-      turn-ended (turn step.before).loop.inv.0 step.side-step.ensures (not_found step.side-step.result c.match.keys2)
+      turn_ended (turn step.before).loop.inv.0 step.side-step.ensures (not_found step.side-step.result c.match.keys2)

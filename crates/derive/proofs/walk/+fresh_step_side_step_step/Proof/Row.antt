@@ -5,18 +5,18 @@ use native.Mathlib.Omega.{arith}
 use mathlib.Core.Path.{ap, ◌∙◌}
 use borrow.Fn.Kinds.{In, Out}
 use Rattle.theory.specs.Table.{Table, Row, table}
-use Rattle.derive.proofs.Coming.{fitted-then}
-use Rattle.derive.proofs.Growing.{rows-sound-to}
-use Rattle.derive.proofs.Membership.{told-yes, told-no, Two-sides, left-within, right-within, left_less, right-less}
-use Rattle.derive.proofs.RowStep.{letter-steps, place-among, left-place, right-place, step_left, step_right, ended, ended-sides, step-on}
-use Rattle.derive.proofs.walk.+fresh_step_side_step_step.Proof.Claims.{step-at, step-claims, not_end}
+use Rattle.derive.proofs.Coming.{fitted_then}
+use Rattle.derive.proofs.Growing.{rows_sound_to}
+use Rattle.derive.proofs.Membership.{told_yes, told_no, TwoSides, left_within, right_within, left_less, right_less}
+use Rattle.derive.proofs.RowStep.{letter_steps, place_among, left_place, right_place, step_left, step_right, ended, ended_sides, step_on}
+use Rattle.derive.proofs.walk.+fresh_step_side_step_step.Proof.Claims.{step_at, step-claims, not_end}
 use Rattle.derive.proofs.walk.step.Reads as step
 use Rattle.derive.proofs.walk.step.Kinds as kinds
 use Rattle.derive.proofs.walk.+fresh_step_side_step_step.Lts-step as lts
 
 module _ (t : ℕ) where
   abbrev Here : (lts.Claims → In 3 kinds.ps → Out 3 kinds.ps kinds.r → Type 0) → Type 0
-  Here P = P (step-claims t) (step-at t) step.Post
+  Here P = P (step-claims t) (step_at t) step.Post
 
   -- ---- The places: the entry and the row read
 
@@ -34,8 +34,8 @@ module _ (t : ℕ) where
 
   -- ---- The places: no letter, the two sides, and the place asked of the left one
 
-  abbrev no-letter : Here lts.After-left-side-arg3 → Here lts.Else1
-  no-letter c = c.before.before.before
+  abbrev no_letter : Here lts.After-left-side-arg3 → Here lts.Else1
+  no_letter c = c.before.before.before
 
   abbrev left-found : Here lts.After-right-side-arg3 → Here lts.After-left-side
   left-found c = c.before.before.before
@@ -44,7 +44,7 @@ module _ (t : ℕ) where
   sided c = left-found c.before
 
   abbrev read : Here lts.After-left-side → Here lts.After-row-at
-  read c = (no-letter c.before).before.before
+  read c = (no_letter c.before).before.before
 
   abbrev right-found : Here lts.After-place-has-arg3 → Here lts.After-right-side
   right-found c = c.before.before.before
@@ -53,7 +53,7 @@ module _ (t : ℕ) where
   both c = right-found c.before
 
   sides : (c : Here lts.After-right-side) → (let r = read (sided c) in
-      Two-sides (rows r) (entry r).args.used (entry r).args.row (sided c).left-side.result c.right_side.result)
+      TwoSides (rows r) (entry r).args.used (entry r).args.row (sided c).left_side.result c.right_side.result)
   sides c =
       let l = sided c in
       let r = read l in
@@ -61,8 +61,8 @@ module _ (t : ℕ) where
       record {
         rows = s.0.rows;
         within = s.1.0;
-        no-letter = λ e. (no-letter l.before).if1.left (ap (λ (v : Row). v.kind) r.row_at.ensures ∙ e);
-        left = l.left-side.ensures;
+        no_letter = λ e. (no_letter l.before).if1.left (ap (λ (v : Row). v.kind) r.row_at.ensures ∙ e);
+        left = l.left_side.ensures;
         right = c.right_side.ensures;
       }
 
@@ -106,39 +106,39 @@ module _ (t : ℕ) where
   pub row-at-requires : Here lts.Need-row-at-requires
   row-at-requires c κs =
       let s = (begun (lent c)).pre.1 in
-      let k = rows-sound-to s.0.rows s.1.0 in
-      (k.in-kind, k.in_left, k.in_right)
+      let k = rows_sound_to s.0.rows s.1.0 in
+      (k.in_kind, k.in_left, k.in_right)
 
   pub returns : Here lts.Need-returns
   returns c =
       let test = c.before.before in
       let r = test.before.before in
       let s = entry r in
-      letter-steps (record { rows = s.pre.1.0.rows; within = s.pre.1.1.0; is = r.row_at.ensures; kind = test.if1.true }) s.pre.1.0
-      s.args.letter s.args.place s.pre.1.1.1 c.letter-step.ensures
+      letter_steps (record { rows = s.pre.1.0.rows; within = s.pre.1.1.0; is = r.row_at.ensures; kind = test.if1.true }) s.pre.1.0
+      s.args.letter s.args.place s.pre.1.1.1 c.letter_step.ensures
 
   -- ---- The needs of a row with two sides
 
   pub left-side-requires : Here lts.Need-left-side-requires
-  left-side-requires c κs = let s = (entry (no-letter c).before.before).pre.1 in rows-sound-to s.0.rows s.1.0
+  left-side-requires c κs = let s = (entry (no_letter c).before.before).pre.1 in rows_sound_to s.0.rows s.1.0
 
   pub right-side-requires : Here lts.Need-right-side-requires
-  right-side-requires c κs = let s = (entry (read (left-found c))).pre.1 in rows-sound-to s.0.rows s.1.0
+  right-side-requires c κs = let s = (entry (read (left-found c))).pre.1 in rows_sound_to s.0.rows s.1.0
 
   pub place-has-requires : Here lts.Need-place-has-requires
   place-has-requires c κs =
       let k = right-found c in
       let s = entry (read (sided k)) in
-      place-among (sides k) s.args.letter s.args.place s.pre.1.1.1
+      place_among (sides k) s.args.letter s.args.place s.pre.1.1.1
 
   pub side-step-requires : Here lts.Need-side-step-requires
   side-step-requires c κs =
       let test = on-left c in
       let k = sides (both test.before) in
       let s = entry (read (sided (both test.before))) in
-      let stands = told-yes _ test.if2.taken test.before.place-has.ensures in (
+      let stands = told_yes _ test.if2.taken test.before.place-has.ensures in (
         omega (arith, left_less k, s.pre.0),
-        (s.pre.1.0, (left-within k, left-place k s.args.letter s.args.place s.pre.1.1.1 stands)),
+        (s.pre.1.0, (left_within k, left_place k s.args.letter s.args.place s.pre.1.1.1 stands)),
       )
 
   pub fresh-step-requires : Here lts.Need-fresh-step-requires
@@ -148,17 +148,17 @@ module _ (t : ℕ) where
       let k = both (left-asked call).before in
       let s = entry (read (sided k)) in
       let e = ended (sides k) s.args.letter s.pre.1.0 s.args.place call.side-step.ensures u.u.given.1 in
-      let w = ended-sides (sides k) s.args.letter s.pre.1.0 s.args.place call.side-step.ensures u.u.given.1 in
-      (omega (arith, right-less (sides k), s.pre.0), (fitted-then s.pre.1.0 e.came call.side-step.kept.0, (w, tt)))
+      let w = ended_sides (sides k) s.args.letter s.pre.1.0 s.args.place call.side-step.ensures u.u.given.1 in
+      (omega (arith, right_less (sides k), s.pre.0), (fitted_then s.pre.1.0 e.came call.side-step.kept.0, (w, tt)))
 
   pub fresh-step-requires-2 : Here lts.Need-fresh-step-requires-2
   fresh-step-requires-2 c κs =
       let test = on-right c in
       let k = sides (both test.before) in
       let s = entry (read (sided (both test.before))) in
-      let stands-not = told-no _ test.if2.left test.before.place-has.ensures in (
-        omega (arith, right-less k, s.pre.0),
-        (s.pre.1.0, ((left-within k, right-within k), right-place k s.args.letter s.args.place s.pre.1.1.1 stands-not)),
+      let stands-not = told_no _ test.if2.left test.before.place-has.ensures in (
+        omega (arith, right_less k, s.pre.0),
+        (s.pre.1.0, ((left_within k, right_within k), right_place k s.args.letter s.args.place s.pre.1.1.1 stands-not)),
       )
 
   pub returns-2 : Here lts.Need-returns-2
@@ -169,8 +169,8 @@ module _ (t : ℕ) where
       let test = left-asked call in
       let k = both test.before in
       let s = entry (read (sided k)) in
-      step-on (sides k) s.args.letter s.pre.1.0 s.args.place call.side-step.ensures u.u.given.1
-      (told-yes _ test.if2.taken test.before.place-has.ensures) fresh.fresh_step.result fresh.fresh_step.ensures
+      step_on (sides k) s.args.letter s.pre.1.0 s.args.place call.side-step.ensures u.u.given.1
+      (told_yes _ test.if2.taken test.before.place-has.ensures) fresh.fresh_step.result fresh.fresh_step.ensures
 
   pub returns-3 : Here lts.Need-returns-3
   returns-3 c =
@@ -178,7 +178,7 @@ module _ (t : ℕ) where
       let test = left-asked call in
       let k = both test.before in
       let s = entry (read (sided k)) in
-      step_left (sides k) s.args.letter s.pre.1.0 s.args.place (told-yes _ test.if2.taken test.before.place-has.ensures) _
+      step_left (sides k) s.args.letter s.pre.1.0 s.args.place (told_yes _ test.if2.taken test.before.place-has.ensures) _
       (not_end call.side-step.result c.match.keys2) call.side-step.ensures
 
   pub returns-4 : Here lts.Need-returns-4
@@ -187,5 +187,5 @@ module _ (t : ℕ) where
       let test = on-right call.before in
       let k = both test.before in
       let s = entry (read (sided k)) in
-      step_right (sides k) s.args.letter s.pre.1.0 s.args.place (told-no _ test.if2.left test.before.place-has.ensures)
+      step_right (sides k) s.args.letter s.pre.1.0 s.args.place (told_no _ test.if2.left test.before.place-has.ensures)
       call.fresh-step2.result call.fresh-step2.ensures

@@ -5,10 +5,10 @@ use native.Mathlib.Omega.{arith}
 use mathlib.Core.Path.{ap}
 use borrow.Fn.Kinds.{In, Out}
 use Rattle.theory.specs.Table.{table}
-use Rattle.derive.proofs.Coming.{fitted-then}
+use Rattle.derive.proofs.Coming.{fitted_then}
 use Rattle.derive.proofs.Membership.{weight}
-use Rattle.derive.proofs.SideStep.{Inner, side-nothing, child-within, inner-in, found, lift-there, side-reached, side-ended}
-use Rattle.derive.proofs.Stepping.{place-within}
+use Rattle.derive.proofs.SideStep.{Inner, side_nothing, child_within, inner_in, found, lift_there, side_reached, side_ended}
+use Rattle.derive.proofs.Stepping.{place_within}
 use Rattle.derive.proofs.walk.+fresh_step_side_step_step.Proof.Claims.{side-at, side-claims, not_found}
 use Rattle.derive.proofs.walk.side_step.Reads as side
 use Rattle.derive.proofs.walk.side_step.Kinds as kinds
@@ -63,17 +63,17 @@ module _ (t : ℕ) where
   -- ---- The needs
 
   pub returns : Here lts.Need-returns
-  returns c = let s = entry c.before.before in side-nothing s.pre.1.0 s.args.letter s.args.place c.enum_told.given.1
+  returns c = let s = entry c.before.before in side_nothing s.pre.1.0 s.args.letter s.args.place c.enum_told.given.1
 
   pub lower-place-requires : Here lts.Need-lower-place-requires
-  lower-place-requires c κs = let s = begun (told c).before in place-within _ s.pre.1.0.rows s.args.place s.pre.1.1.1
+  lower-place-requires c κs = let s = begun (told c).before in place_within _ s.pre.1.0.rows s.args.place s.pre.1.1.1
 
   pub step-requires : Here lts.Need-step-requires
   step-requires c κs =
       let place = placed c in
       let k = inner place in
       let s = (begun (side-told place)).pre in
-      (omega (arith, ap weight k.is, s.0), (s.1.0, (child-within k, inner-in k)))
+      (omega (arith, ap weight k.is, s.0), (s.1.0, (child_within k, inner_in k)))
 
   pub lift-requires : Here lts.Need-lift-requires
   lift-requires c κs =
@@ -82,16 +82,16 @@ module _ (t : ℕ) where
       let place = placed step.before in
       let k = inner place in
       let h = found k row.row.given.1 step.step.ensures in
-      (fitted-then (begun (side-told place)).pre.1.0 h.came step.step.kept.0, lift-there k row.row.given.1 step.step.ensures)
+      (fitted_then (begun (side-told place)).pre.1.0 h.came step.step.kept.0, lift_there k row.row.given.1 step.step.ensures)
 
   pub returns-2 : Here lts.Need-returns-2
   returns-2 c =
       let lift = lifted c.before in
       let row = (row_told lift.before).before in
       let step = step-found row in
-      side-reached (inner (placed step.before)) row.row.given.1 step.step.ensures lift.lift.ensures c.reached.ensures
+      side_reached (inner (placed step.before)) row.row.given.1 step.step.ensures lift.lift.ensures c.reached.ensures
 
   pub returns-3 : Here lts.Need-returns-3
   returns-3 c =
       let step = stepped c.before in
-      side-ended (inner (placed step.before)) _ (not_found step.step.result c.match2.keys2) step.step.ensures
+      side_ended (inner (placed step.before)) _ (not_found step.step.result c.match2.keys2) step.step.ensures

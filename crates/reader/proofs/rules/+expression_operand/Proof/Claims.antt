@@ -4,7 +4,7 @@ use Prim.Native.Nat.{ℕ, ◌+◌, ◌-◌, ◌<◌}
 use lib.ListN.{length}
 use borrow.Fn.Kinds.{In, Out}
 use borrow.Fn.PlainCycle.{Measures, is, falls, and}
-use Rattle.theory.specs.Limit.{most-open}
+use Rattle.theory.specs.Limit.{most_open}
 use Rattle.reader.proofs.rules.expression.Reads as expression
 use Rattle.reader.proofs.rules.expression.Kinds as expression-kinds
 use Rattle.reader.proofs.rules.+expression_operand.Lts-expression as expression-lts
@@ -19,10 +19,10 @@ use Rattle.reader.proofs.entries.sign.Reads as sign_reads
 use Rattle.reader.proofs.entries.stars.Reads as stars-reads
 
 abbrev pub μ-expression : Measures 4 expression-kinds.ps ℕ
-μ-expression κs a = (length a.0.now - a.1.0.cursor.at) + (most-open - a.1.0.depth) + 1
+μ-expression κs a = (length a.0.now - a.1.0.cursor.at) + (most_open - a.1.0.depth) + 1
 
 abbrev pub μ-operand : Measures 4 operand-kinds.ps ℕ
-μ-operand κs a = (length a.0.now - a.1.0.cursor.at) + (most-open - a.1.0.depth)
+μ-operand κs a = (length a.0.now - a.1.0.cursor.at) + (most_open - a.1.0.depth)
 
 abbrev pub expression-below : ℕ → In 4 expression-kinds.ps
 expression-below t = and 4 expression-kinds.ps (falls 4 expression-kinds.ps ◌<◌ μ-expression t) expression.Pre

@@ -6,8 +6,8 @@ use Rattle.theory.specs.Table.{Table, table}
 use Rattle.reader.specs.declared.entries.Found.{Found}
 use Rattle.reader.specs.declared.entries.Found.TheVariants.{Value}
 use Rattle.reader.specs.Found.{begins, Answered, Unstarred}
-use Rattle.reader.proofs.Laid.{left-by-call}
-use Rattle.reader.proofs.Answers.{after-positive}
+use Rattle.reader.proofs.Laid.{left_by_call}
+use Rattle.reader.proofs.Answers.{after_positive}
 use Rattle.reader.proofs.rules.+expression_operand.Lts-expression as lts
 use Rattle.reader.proofs.rules.+expression_operand.Proof.Claims.{Of-expression as Of}
 
@@ -40,10 +40,10 @@ module _ (t : ℕ) where
 
   first_found : (c : Of t lts.After-first)
       → let called = first-call c.before.before in
-      owes (entry called) (Value c.first.given.0.0 c.first.given.0.1.0) (left-by-call called.operand.last.1.1)
+      owes (entry called) (Value c.first.given.0.0 c.first.given.0.1.0) (left_by_call called.operand.last.1.1)
   first_found c =
       let called = first-call c.before.before in
-      subst (λ (r : Found). owes (entry called) r (left-by-call called.operand.last.1.1)) c.first.given.1
+      subst (λ (r : Found). owes (entry called) r (left_by_call called.operand.last.1.1)) c.first.given.1
       called.operand.ensures
 
   pub operand-refused : Of t lts.Need-returns
@@ -52,7 +52,7 @@ module _ (t : ℕ) where
       (called.operand.ensures, subst (Unstarred (entry called).args.text.now) (sym c.enum_told.given.1) tt)
 
   pub stars-asked : Of t lts.Need-stars-requires
-  stars-asked c κs = let x = first_found (first_taken c).before in (search rules, after-positive _ _ x, x.fits)
+  stars-asked c κs = let x = first_found (first_taken c).before in (search rules, after_positive _ _ x, x.fits)
 
   pub expression-read : Of t lts.Need-returns-2
   expression-read c =

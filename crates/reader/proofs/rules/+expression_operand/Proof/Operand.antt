@@ -4,19 +4,19 @@ use Prim.Native.Nat.{ℕ, ◌≤◌, ◌<◌}
 use native.Mathlib.Omega.{arith}
 use mathlib.Core.Path.{subst, ◌∙◌}
 use borrow.Author.Rules.{rules}
-use Rattle.theory.specs.Limit.{most-entries}
+use Rattle.theory.specs.Limit.{most_entries}
 use Rattle.theory.specs.Table.{Table, table}
 use Rattle.theory.specs.Scan.{token}
 use Rattle.reader.specs.declared.entries.Found.{Found}
 use Rattle.reader.specs.declared.entries.Found.TheVariants.{Value}
-use Rattle.reader.specs.Found.{Leaf-row, Sign-at, Start, begins, Answered, Unstarred}
-use Rattle.reader.proofs.Laid.{left-by-call}
-use Rattle.columns.proofs.ByteAt.{ByteAt, step_end, step-byte}
-use Rattle.reader.proofs.Answers.{end-answers, leaf-refused, leaf-made, after-positive}
-use Rattle.reader.proofs.Pair.{Inside, Left, Signed, within_pair, inside, deep-answers, left, left-refused, signed-on, signed-kind, sign-refused, right-refused, pair-answers}
+use Rattle.reader.specs.Found.{IsLeafRow, SignAt, Start, begins, Answered, Unstarred}
+use Rattle.reader.proofs.Laid.{left_by_call}
+use Rattle.columns.proofs.ByteAt.{ByteAt, step_end, step_byte}
+use Rattle.reader.proofs.Answers.{end_answers, leaf_refused, leaf_made, after_positive}
+use Rattle.reader.proofs.Pair.{Inside, Left, Signed, within_pair, inside, deep_answers, left, left_refused, signed_on, signed_kind, sign_refused, right_refused, pair_answers}
 use Rattle.reader.proofs.rules.+expression_operand.Lts-operand as lts
 use Rattle.reader.proofs.rules.+expression_operand.Proof.Claims.{Of-operand as Of}
-use Rattle.reader.proofs.rules.+expression_operand.Proof.Places.{entry, leaf-byte, row-taken, entry-home, opened-byte, opened, left-call, left-taken, sign-taken, right-call, right-taken, close-call, byte-entry, left-opened, left-entry, sign-left, right-sign, right-left}
+use Rattle.reader.proofs.rules.+expression_operand.Proof.Places.{entry, leaf-byte, row-taken, entry-home, opened-byte, opened, left-call, left-taken, sign-taken, right-call, right-taken, close-call, byte-entry, left-opened, left-entry, sign-left, right_sign, right-left}
 
 module _ (t : ℕ) where
   -- ---- What is known at each
@@ -25,10 +25,10 @@ module _ (t : ℕ) where
   begun c = begins c.args.at (table c.args.kind.now c.args.left.now c.args.right.now)
 
   abbrev left-columns : Of t lts.After-x → Table
-  left-columns c = left-by-call (left-call t c.before.before).expression.last.1.1
+  left-columns c = left_by_call (left-call t c.before.before).expression.last.1.1
 
   abbrev right-columns : Of t lts.After-y → Table
-  right-columns c = left-by-call (right-call t c.before.before).expression2.last.1.1
+  right-columns c = left_by_call (right-call t c.before.before).expression2.last.1.1
 
   -- What `expression` owes inside the parenthesis that opened where `operand` was entered.
   abbrev inner-owes : Of t lts.Start → (at made : ℕ) → Table → Found → Table → Type 0
@@ -37,7 +37,7 @@ module _ (t : ℕ) where
   stepped : (c : Of t lts.After-byte)
       → let s = byte-entry t c in ByteAt s.args.text.now s.args.at.cursor.at c.byte.given.0.0 c.byte.given.0.1.0
   stepped c =
-      step-byte _ _ c.before.before.step.ensures c.byte.given.1
+      step_byte _ _ c.before.before.step.ensures c.byte.given.1
 
   opened-at : (c : Of t lts.Else2)
       → let s = byte-entry t (opened-byte t c) in
@@ -68,15 +68,15 @@ module _ (t : ℕ) where
       (left-columns (sign-left t c))
   signed-at c =
       let x = sign-left t c in
-      signed-on (left_at x)
-      (subst (Sign-at (left-entry t x).args.text.now x.x.given.0.1.0.at) c.sign2.given.1 c.before.before.sign.ensures)
+      signed_on (left_at x)
+      (subst (SignAt (left-entry t x).args.text.now x.x.given.0.1.0.at) c.sign2.given.1 c.before.before.sign.ensures)
 
   right-found : (c : Of t lts.After-y)
-      → let sign = right-sign t c.before.before in let x = sign-left t sign in
+      → let sign = right_sign t c.before.before in let x = sign-left t sign in
       inner-owes (left-entry t x) sign.sign2.given.0.1.0.at x.x.given.0.0 (left-columns x)
       (Value c.y.given.0.0 c.y.given.0.1.0) (right-columns c)
   right-found c =
-      let sign = right-sign t c.before.before in
+      let sign = right_sign t c.before.before in
       let x = sign-left t sign in
       subst (λ (r : Found). inner-owes (left-entry t x) sign.sign2.given.0.1.0.at x.x.given.0.0 (left-columns x) r (right-columns c))
       c.y.given.1 (right-call t c.before.before).expression2.ensures.0
@@ -87,19 +87,19 @@ module _ (t : ℕ) where
 
   pub both-made : (c : Of t lts.After-y)
       → let first = (right-left t c).x.given.0.0 in let second = c.y.given.0.0 in
-      (0 < first) × (first ≤ most-entries) × (0 < second) × (second ≤ most-entries)
+      (0 < first) × (first ≤ most_entries) × (0 < second) × (second ≤ most_entries)
   both-made c =
       let x = left-found (right-left t c) in
       let y = right-found c in
-      let small = (left-entry t (right-left t c)).pre.1.room-left.small in
-      (after-positive _ _ x, omega (arith, x.fits), after-positive _ _ y, omega (arith, y.fits))
+      let small = (left-entry t (right-left t c)).pre.1.room_left.small in
+      (after_positive _ _ x, omega (arith, x.fits), after_positive _ _ y, omega (arith, y.fits))
 
   -- ---- Its needs
 
   pub text-ended : Of t lts.Need-returns
   text-ended c =
       let s = entry t c.before.before in
-      end-answers s.args.at.room s.args.text.now (begun s)
+      end_answers s.args.at.room s.args.text.now (begun s)
       (step_end s.args.text.now _ c.before.before.step.ensures c.enum_told.given.1)
 
   pub no-leaf : Of t lts.Need-returns-2
@@ -107,8 +107,8 @@ module _ (t : ℕ) where
       let called = c.before.before in
       let byte = leaf-byte t called in
       let s = byte-entry t byte in
-      leaf-refused s.args.at.room s.args.text.now (begun s) s.pre.1 (stepped byte) called.before.if1.true
-      (subst (Leaf-row (token byte.byte.given.0.0)) c.enum-told2.given.1 called.leaf.ensures)
+      leaf_refused s.args.at.room s.args.text.now (begun s) s.pre.1 (stepped byte) called.before.if1.true
+      (subst (IsLeafRow (token byte.byte.given.0.0)) c.enum-told2.given.1 called.leaf.ensures)
 
   pub entry-asked : Of t lts.Need-entry-requires
   entry-asked c κs = (search rules, omega (arith, (stepped (leaf-byte t (row-taken t c).before.before.before)).next))
@@ -119,13 +119,13 @@ module _ (t : ℕ) where
       let row = (row-taken t called.before).before in
       let byte = leaf-byte t row.before.before in
       let s = byte-entry t byte in
-      let leaf = subst (Leaf-row (token byte.byte.given.0.0)) row.row.given.1 row.before.before.leaf.ensures in
-      leaf-made s.args.at.room s.args.text.now (begun s) s.pre.1 (stepped byte) _ leaf.0 leaf.1 (leaf.2 s.args.at.made)
-      called.entry.result (left-by-call called.entry.last.1.1) called.entry.ensures
+      let leaf = subst (IsLeafRow (token byte.byte.given.0.0)) row.row.given.1 row.before.before.leaf.ensures in
+      leaf_made s.args.at.room s.args.text.now (begun s) s.pre.1 (stepped byte) _ leaf.0 leaf.1 (leaf.2 s.args.at.made)
+      called.entry.result (left_by_call called.entry.last.1.1) called.entry.ensures
 
-  pub too-deep : Of t lts.Need-returns-4
-  too-deep c =
-      let byte = c.before.before.before in deep-answers (byte-entry t byte).requires.1 (stepped byte) c.before.if1.false (omega arith)
+  pub too_deep : Of t lts.Need-returns-4
+  too_deep c =
+      let byte = c.before.before.before in deep_answers (byte-entry t byte).requires.1 (stepped byte) c.before.if1.false (omega arith)
 
   pub left-asked : Of t lts.Need-expression-requires
   left-asked c κs =
@@ -134,21 +134,21 @@ module _ (t : ℕ) where
       let shallow = (opened t c).if2.false in (
         omega (arith, at.inside, at.next, pre.0),
         record {
-          room-left = pre.1.room-left;
+          room_left = pre.1.room_left;
           shallow = omega (arith, pre.1.shallow);
           within = omega (arith, at.inside, at.next);
           fits = pre.1.fits;
-          no-∅ = λ z. omega arith;
+          no_∅ = λ z. omega arith;
         },
       )
 
   pub left-not-read : Of t lts.Need-returns-5
   left-not-read c =
       let called = left-call t c.before.before in
-      left-refused (opened-at (opened t called.before)) _ _ c.enum-told3.given.1 called.expression.ensures.0
+      left_refused (opened-at (opened t called.before)) _ _ c.enum-told3.given.1 called.expression.ensures.0
 
   pub no_sign : Of t lts.Need-returns-6
-  no_sign c = sign-refused (left_at (left-taken t c.before.before)) _ _ c.enum-told4.given.1 c.before.before.sign.ensures
+  no_sign c = sign_refused (left_at (left-taken t c.before.before)) _ _ c.enum-told4.given.1 c.before.before.sign.ensures
 
   pub right-asked : Of t lts.Need-expression-requires-2
   right-asked c κs =
@@ -158,39 +158,39 @@ module _ (t : ℕ) where
       let kept = (left-call t (sign-left t sign).before.before).expression.kept.1.1 in (
         omega (arith, x.onward, x.within, pre.0),
         record {
-          room-left = search rules;
+          room_left = search rules;
           shallow = omega (arith, x.shallow);
           within = x.within;
           fits = x.fits;
-          no-∅ = λ z. omega arith;
+          no_∅ = λ z. omega arith;
         },
       )
 
   pub right-not-read : Of t lts.Need-returns-7
   right-not-read c =
       let called = c.before.before in
-      right-refused (signed-at (right-sign t called)) _ _ c.enum-told5.given.1 (right-call t called).expression2.ensures.0
+      right_refused (signed-at (right_sign t called)) _ _ c.enum-told5.given.1 (right-call t called).expression2.ensures.0
 
   pub kind_fits : Of t lts.Need-overflow-cast-t44
-  kind_fits c = omega (arith, signed-kind (signed-at (right-sign t c.before.before.before)))
+  kind_fits c = omega (arith, signed_kind (signed-at (right_sign t c.before.before.before)))
 
   pub close-asked : Of t lts.Need-close-requires
   close-asked c κs =
       let y = (right-taken t c).before in
-      let room-left = (left-entry t (right-left t y)).pre.1.room-left in
+      let room_left = (left-entry t (right-left t y)).pre.1.room_left in
       let kept = (left-call t (right-left t y).before.before).expression.kept.1.1 in
       let kept₂ = (right-call t y.before.before).expression2.kept.1.1 in
       search rules
 
   -- The three calls that stand between the entry and the end of a pair keep the lengths.
-  pub kind-kept : Of t lts.Need-same-length-13
-  kind-kept c =
+  pub kind_kept : Of t lts.Need-same-length-13
+  kind_kept c =
       let y = (right-taken t (close-call t c).before).before in
       (close-call t c).close.auto.1.1.1.0 ∙ (right-call t y.before.before).expression2.kept.1.1.0
       ∙ (left-call t (right-left t y).before.before).expression.kept.1.1.0
 
-  pub left-kept : Of t lts.Need-same-length-14
-  left-kept c =
+  pub left_kept : Of t lts.Need-same-length-14
+  left_kept c =
       let y = (right-taken t (close-call t c).before).before in
       (close-call t c).close.auto.1.1.1.1.0 ∙ (right-call t y.before.before).expression2.kept.1.1.1.0
       ∙ (left-call t (right-left t y).before.before).expression.kept.1.1.1.0
@@ -205,5 +205,5 @@ module _ (t : ℕ) where
   pair_read c =
       let called = close-call t c in
       let y = (right-taken t called.before).before in
-      pair-answers (signed-at (right-sign t y.before.before)) (right-found y) (right-unstarred y) called.close.result
-      (left-by-call called.close.last.1.1.1) called.close.ensures
+      pair_answers (signed-at (right_sign t y.before.before)) (right-found y) (right-unstarred y) called.close.result
+      (left_by_call called.close.last.1.1.1) called.close.ensures

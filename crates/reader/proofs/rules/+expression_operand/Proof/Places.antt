@@ -66,8 +66,8 @@ module _ (t : ℕ) where
   abbrev pub sign-left : Of t lts.After-sign2 → Of t lts.After-x
   sign-left c = left-taken c.before.before
 
-  abbrev pub right-sign : Of t lts.After-slice-known12 → Of t lts.After-sign2
-  right-sign c = (sign-taken (right-call c).before).before
+  abbrev pub right_sign : Of t lts.After-slice-known12 → Of t lts.After-sign2
+  right_sign c = (sign-taken (right-call c).before).before
 
   abbrev pub right-left : Of t lts.After-y → Of t lts.After-x
-  right-left c = sign-left (right-sign c.before.before)
+  right-left c = sign-left (right_sign c.before.before)
