@@ -14,6 +14,8 @@ import sys
 WORD = r"[^\s(){}.;,`\"⌜⌝]+"
 # Names that the rule would let fall together with another of ours.
 OTHER = {"Leaf-row": "IsLeafRow"}
+# A file of answers: its names are those of the goals.
+ANSWERS = re.compile(r"\.(Goals|Given) as goal")
 KIT = ("Prim", "native", "mathlib", "lib", "borrow", "denote", "mir")
 
 
@@ -38,12 +40,14 @@ def declared(text):
             names.update(part.group(1).split())
         for part in re.finditer(r"(?:λ|let)\s+(%s)" % WORD, line):
             names.add(part.group(1))
+        for part in re.finditer(r"let\s+\(([^()]*)\) =", line):
+            names.update(n.strip() for n in part.group(1).split(","))
         head = re.match(r"\s*(?:(?:pub|abbrev|unfoldable|record|data|ruleset|module)\s+)*(%s)" % WORD, line)
         if head:
             names.add(head.group(1))
         for part in re.finditer(r"\b(%s) (?:as )" % WORD, line):
             names.add(part.group(1))
-    return {n for n in names if re.fullmatch(r"[^\W\d_+][^\s]*", n) and "-" in n.strip("-") and not n.startswith("-")}
+    return {n for n in names if re.fullmatch(r"[^\W\d_+][^\s]*|[∅∪⊎][^\s]*", n) and "-" in n.strip("-") and not n.startswith("-")}
 
 
 def foreign(text):
@@ -75,6 +79,8 @@ def table():
             continue
         with open(path, encoding="utf-8") as f:
             text = f.read()
+        if ANSWERS.search(text):
+            continue
         names |= declared(text) - foreign(text)
     return {n: respelled(n) for n in sorted(names)}
 
@@ -121,6 +127,8 @@ def main(argv):
     for path in antt_files() + sorted(glob.glob("crates/*/src/**/*.rt", recursive=True)):
         with open(path, encoding="utf-8") as f:
             text = f.read()
+        if ANSWERS.search(text):
+            continue
         outside = foreign(text)
         here = {a: b for a, b in names.items() if a not in outside}
         tokens = set(TOKEN.findall(text))

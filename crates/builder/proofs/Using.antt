@@ -17,8 +17,8 @@ use Rattle.builder.specs.Progress.{Knows}
 pub gathered_knows : (kind left right : List ℕ) (letters : Letters) → Gathers kind left letters → Knows letters (tree (table kind left right))
 unfolding uses
 gathered_knows kind left right letters h a l q m =
-    let (i, below, is_letter, is-a) = letters_entered (table kind left right) a m in
+    let (i, below, is_letter, is_a) = letters_entered (table kind left right) a m in
     true≢false
     (sym (some_at (length kind) (λ j. eqb (get_or kind j 0) Kind.letter && eqb (get_or left j 0) a) i below
-    (ap₂ ◌&&◌ (eq-eqb (get_or kind i 0) Kind.letter is_letter) (eq-eqb (get_or left i 0) a is-a)))
+    (ap₂ ◌&&◌ (eq-eqb (get_or kind i 0) Kind.letter is_letter) (eq-eqb (get_or left i 0) a is_a)))
     ∙ sym (h a l) ∙ q)

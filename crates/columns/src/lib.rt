@@ -1,5 +1,7 @@
 // Small readings and stores on lent columns, shared by all that read and write them.
 
+#![tactic(auto)]
+
 ghost use Rattle.std.specs.Prelude.{◌≡◌, ◌<◌, min, length};
 ghost use Rattle.theory.specs.Column.{zeros};
 ghost use Rattle.theory.specs.Table.{table, row, row_children};

@@ -13,7 +13,7 @@ use Rattle.theory.specs.Table.{Table, Row, row, Sound, tree_at, kind_of_sign, ro
 use Rattle.theory.proofs.Meaning.{kind_is, children_sign, children_star}
 use Rattle.theory.proofs.Pair.{pair_empty_word}
 use Rattle.theory.proofs.Sound.{Parent, parent, of_none, of_one, of_two}
-use Rattle.theory.proofs.Rooted.{Rooted, ∅-row, ε_row, letter_row, sign_row, star_row, rooted, tree_sign, tree_star}
+use Rattle.theory.proofs.Rooted.{Rooted, ∅_row, ε_row, letter_row, sign_row, star_row, rooted, tree_sign, tree_star}
 use Rattle.columns.specs.Row.{as_children}
 use Rattle.columns.specs.declared.Children.{Children}
 use Rattle.columns.specs.declared.Children.TheVariants.{Nothing, One, Two}
@@ -60,7 +60,7 @@ module _ {t : Table} {i : ℕ} {w : Row} {r : Children} (k : Read t i w r) where
       none_named = ap as_children (sym e) ∙ k.named
 
       go : Rooted t i → eqb w.kind Kind.empty_word ≡ empty_word (tree_at t i)
-      go (∅-row q tr) = rw (kind_is (k.is ∙ q), tr)
+      go (∅_row q tr) = rw (kind_is (k.is ∙ q), tr)
       go (ε_row q tr) = rw (kind_is (k.is ∙ q), tr)
       go (letter_row a q tr) = rw (kind_is (k.is ∙ q), tr)
       go (sign_row s l r hl hr q tr) = let z : ◌≡◌ {A = ℕ} 0 1 = cc (children_sign w s (kind_is (k.is ∙ q))) in absurd (omega arith)

@@ -8,11 +8,11 @@ use Rattle.theory.specs.Kind
 use Rattle.theory.specs.Expression.{Expression, same, Sign, binary, star, union, concatenation, shuffle}
 use Rattle.theory.specs.Distinct.{distinct, NoRepeats}
 use Rattle.theory.specs.Derivative.{joined, derivative, empty_word}
-use Rattle.theory.specs.Table.{Table, Row, row, tree_at, kind_of_sign, Meaning, ∅-kind, ε_kind, letter_kind, sign_kind, star_kind, unknown_kind, meaning}
+use Rattle.theory.specs.Table.{Table, Row, row, tree_at, kind_of_sign, Meaning, ∅_kind, ε_kind, letter_kind, sign_kind, star_kind, unknown_kind, meaning}
 use Rattle.theory.proofs.Derivative.{gathered, derivative_gathered, derivative_pair, derivative_no_repeats}
 use Rattle.theory.proofs.Meaning.{Numbered, numbered, meaning_is, kind_is}
 use Rattle.theory.proofs.Members.{map_same}
-use Rattle.theory.proofs.Rooted.{Rooted, ∅-row, ε_row, letter_row, sign_row, star_row, rooted, sign_rooted}
+use Rattle.theory.proofs.Rooted.{Rooted, ∅_row, ε_row, letter_row, sign_row, star_row, rooted, sign_rooted}
 use Rattle.derive.specs.declared.sides.Join.TheVariants.{Followed}
 use Rattle.derive.specs.declared.sides.Side.{Side}
 use Rattle.derive.specs.declared.sides.Side.TheVariants.{Nothing, Of}
@@ -44,7 +44,7 @@ module _ (t : Table) (i : ℕ) {w : Row} (e : w ≡ row t i) where
     left_none n = go (meaning w.kind) (numbered w.kind)
       where
         go : (m : Meaning) → Numbered m w.kind → Nothing ≡ left_side t i
-        go ∅-kind h = left_as ∅-kind h
+        go ∅_kind h = left_as ∅_kind h
         go ε_kind h = left_as ε_kind h
         go letter_kind h = left_as letter_kind h
         go (sign_kind s) h = absurd (d s h)
@@ -55,7 +55,7 @@ module _ (t : Table) (i : ℕ) {w : Row} (e : w ≡ row t i) where
     right_none = go (meaning w.kind) (numbered w.kind)
       where
         go : (m : Meaning) → Numbered m w.kind → Nothing ≡ right_side t i
-        go ∅-kind h = right_as ∅-kind h
+        go ∅_kind h = right_as ∅_kind h
         go ε_kind h = right_as ε_kind h
         go letter_kind h = right_as letter_kind h
         go (sign_kind s) h = absurd (d s h)
@@ -114,9 +114,9 @@ module _ {t : Table} {n : ℕ} (h : Rows t n) (a i : ℕ) where
 
   by_root : Rooted t i → ((row t i).kind ≡ Kind.letter → ⊥) → Lists (left_side t i) (right_side t i)
   unfolding gathered distinct
-  by_root (∅-row e tr) d =
+  by_root (∅_row e tr) d =
       ap (derivative a) tr ∙ derivative_gathered a _
-      ∙ ap₂ (λ b c. distinct same (side_list a t b ++ side_list a t c)) (left_as t i (sym e) ∅-kind refl) (right_as t i (sym e) ∅-kind refl)
+      ∙ ap₂ (λ b c. distinct same (side_list a t b ++ side_list a t c)) (left_as t i (sym e) ∅_kind refl) (right_as t i (sym e) ∅_kind refl)
   by_root (ε_row e tr) d =
       ap (derivative a) tr ∙ derivative_gathered a _
       ∙ ap₂ (λ b c. distinct same (side_list a t b ++ side_list a t c)) (left_as t i (sym e) ε_kind refl) (right_as t i (sym e) ε_kind refl)
@@ -146,14 +146,14 @@ module _ {t : Table} {n : ℕ} (h : Rows t n) {i : ℕ} (l : i < n) where
   right_sign shuffle x y hx hy b = (hy, le_trans hx (le_of_lt l))
 
   left_within : Rooted t i → WithinRow n i (left_side t i)
-  left_within (∅-row e tr) = subst (WithinRow n i) (left_as t i (sym e) ∅-kind refl) tt
+  left_within (∅_row e tr) = subst (WithinRow n i) (left_as t i (sym e) ∅_kind refl) tt
   left_within (ε_row e tr) = subst (WithinRow n i) (left_as t i (sym e) ε_kind refl) tt
   left_within (letter_row a e tr) = subst (WithinRow n i) (left_as t i (sym e) letter_kind refl) tt
   left_within (sign_row s x y hx hy e tr) = subst (WithinRow n i) (left_as t i (sym e) (sign_kind s) refl) (left_sign s x y hx hy)
   left_within (star_row x hx e tr) = subst (WithinRow n i) (left_as t i (sym e) star_kind refl) (hx, l)
 
   right_within : Rooted t i → WithinRow n i (right_side t i)
-  right_within (∅-row e tr) = subst (WithinRow n i) (right_as t i (sym e) ∅-kind refl) tt
+  right_within (∅_row e tr) = subst (WithinRow n i) (right_as t i (sym e) ∅_kind refl) tt
   right_within (ε_row e tr) = subst (WithinRow n i) (right_as t i (sym e) ε_kind refl) tt
   right_within (letter_row a e tr) = subst (WithinRow n i) (right_as t i (sym e) letter_kind refl) tt
   right_within (sign_row s x y hx hy e tr) =

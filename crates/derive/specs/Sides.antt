@@ -2,7 +2,7 @@
 use Rattle.std.specs.Prelude.{ℕ, ◌<◌, Bool, true, false, not, ◌&&◌, List, [], map, eqb}
 use Rattle.theory.specs.Expression.{Expression, Sign, union, concatenation, shuffle}
 use Rattle.theory.specs.Derivative.{joined, derivative, empty_word}
-use Rattle.theory.specs.Table.{Table, Row, row, tree_at, Meaning, ∅-kind, ε_kind, letter_kind, sign_kind, star_kind, unknown_kind, meaning, kind_of_sign}
+use Rattle.theory.specs.Table.{Table, Row, row, tree_at, Meaning, ∅_kind, ε_kind, letter_kind, sign_kind, star_kind, unknown_kind, meaning, kind_of_sign}
 use Rattle.derive.specs.declared.sides.Join.{Join}
 use Rattle.derive.specs.declared.sides.Join.TheVariants.{Followed, Shuffled, Shuffles}
 use Rattle.derive.specs.declared.sides.Side.{Side}
@@ -43,7 +43,7 @@ WithinRow n i (Of child other join) = (child < i) × (other < n)
 -- followed by y; then, if x contains the empty word, y's list"; star: "each member of the inner list followed by the star"; shuffle: "each
 -- member of x's list shuffled with y; then x shuffled with each member of y's list".
 abbrev pub left_of : Meaning → ℕ → ℕ → ℕ → Side
-left_of ∅-kind l r i = Nothing
+left_of ∅_kind l r i = Nothing
 left_of ε_kind l r i = Nothing
 left_of letter_kind l r i = Nothing
 left_of (sign_kind union) l r i = Of l 0 Followed
@@ -58,7 +58,7 @@ pick false a b = b
 
 -- `e` is whether the left part has the empty word.
 abbrev pub right_of : Meaning → ℕ → ℕ → Bool → Side
-right_of ∅-kind l r e = Nothing
+right_of ∅_kind l r e = Nothing
 right_of ε_kind l r e = Nothing
 right_of letter_kind l r e = Nothing
 right_of (sign_kind union) l r e = Of r 0 Followed

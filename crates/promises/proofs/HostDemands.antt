@@ -92,29 +92,29 @@ judged : {g : Table} {c : Lent} {counts : List ℕ} {c' : Lent} {counts' : List 
     {told : List ℕ} → HostBuilds g c counts 0 c' counts' → 4 ≤ length judge_lent → ¬ TooShort k (get_or counts' 0 0)
     → HostJudges (handed (get_or counts' 0 0) c'.accepting (get_or counts' 2 0) c'.arcs) w k judge_lent r k' told → r ≡ 0
 judged {c' = c'} {w = w} {k} {judge_lent} {r} {k'} {told} h l s j =
-    let (built, is_built, built-well, built-told) = answered h refl in
+    let (built, is_built, built_well, built_told) = answered h refl in
     let judges =
-    subst (λ (x : List ℕ). HostJudges (handed (get_or x 0 0) c'.accepting (get_or x 2 0) c'.arcs) w k judge_lent r k' told) built-told j in
-    let enough = subst (λ (x : List ℕ). ¬ TooShort k (get_or x 0 0)) built-told s in
+    subst (λ (x : List ℕ). HostJudges (handed (get_or x 0 0) c'.accepting (get_or x 2 0) c'.arcs) w k judge_lent r k' told) built_told j in
+    let enough = subst (λ (x : List ℕ). ¬ TooShort k (get_or x 0 0)) built_told s in
     let (a, o, e, q) = judges.enough l in
-    e ∙ ap packed (demand_two.accepts is_built (number_of built-well) o enough).0
+    e ∙ ap packed (demand_two.accepts is_built (number_of built_well) o enough).0
 
 accepts : {g : Table} {c : Lent} {counts : List ℕ} {c' : Lent} {counts' : List ℕ} {w : Word} {k : Work} {judge_lent : List ℕ} {k' : Work} {told : List ℕ}
     → HostBuilds g c counts 0 c' counts' → HostJudges (handed (get_or counts' 0 0) c'.accepting (get_or counts' 2 0) c'.arcs) w k judge_lent 0 k' told
     → (get_or told 0 0 ≡ 1) ↔ In (tree g) w
 accepts {g} {c' = c'} {w = w} {k} {judge_lent} {k'} {told} h j =
-    let (built, is_built, built-well, built-told) = answered h refl in
+    let (built, is_built, built_well, built_told) = answered h refl in
     let judges =
-    subst (λ (x : List ℕ). HostJudges (handed (get_or x 0 0) c'.accepting (get_or x 2 0) c'.arcs) w k judge_lent 0 k' told) built-told j in
-    let (verdict, is-judged, judged-well, said) = answered judges refl in
+    subst (λ (x : List ℕ). HostJudges (handed (get_or x 0 0) c'.accepting (get_or x 2 0) c'.arcs) w k judge_lent 0 k' told) built_told j in
+    let (verdict, is_judged, judged_well, said) = answered judges refl in
     subst (λ (v : ℕ). (v ≡ 1) ↔ In (tree g) w) (sym (ap (λ (x : List ℕ). get_or x 0 0) said))
-    (demand_two.accepts is_built (number_of built-well) is-judged (long_enough (((matcher_meets is-judged).exact _).0 refl) judged-well)).1
+    (demand_two.accepts is_built (number_of built_well) is_judged (long_enough (((matcher_meets is_judged).exact _).0 refl) judged_well)).1
 
 accepts_text : {text : Text} {w : Word} {counts : List ℕ} → HostRun text w counts → (e : Expression) → Writable e → written e ≡ text
     → (get_or counts 0 0 ≡ 1) ↔ In e w
 accepts_text {w = w} {counts} run e writable spelled =
-    let (read, reads, read-well, read_told) = answered run.reads refl in
-    let r = read_then_build reads (number_of read-well) in
+    let (read, reads, read_well, read_told) = answered run.reads refl in
+    let r = read_then_build reads (number_of read_well) in
     let builds =
     subst (λ (k : List ℕ). HostBuilds (first (get_or k 0 0) run.table_left) run.lent run.build_lent 0 run.left run.build_counts) read_told
     run.builds in

@@ -11,7 +11,7 @@ use borrow.Author.Tests.{eqb-true, eq-eqb, leb-true, le-leb}
 use Rattle.theory.specs.Expression as Expression
 use Rattle.theory.specs.Expression.{Sign}
 use Rattle.theory.specs.Table as Tested
-use Rattle.theory.specs.Table.{Table, Row, row, size, Meaning, ∅-kind, ε_kind, letter_kind, sign_kind, star_kind, unknown_kind, meaning, kind_of_sign, fields_fit, children, row_children}
+use Rattle.theory.specs.Table.{Table, Row, row, size, Meaning, ∅_kind, ε_kind, letter_kind, sign_kind, star_kind, unknown_kind, meaning, kind_of_sign, fields_fit, children, row_children}
 use Rattle.theory.proofs.Meaning.{Numbered, numbered, meaning_is}
 use Rattle.promises.specs.Table.{FieldsFit, empty_language, empty_word, letter, union, concatenation, shuffle, star, ChildOf, left, right, Faultless, WellFormed, TablesTested}
 
@@ -26,7 +26,7 @@ module _ (w : Row) where
 
   fits_of : (m : Meaning) → Numbered m w.kind → w.kind ≤ 6 → fields_fit m w.left w.right ≡ true → FieldsFit w
   unfolding fields_fit
-  fits_of ∅-kind k l e = let (p, q) = (and-eq-true_iff _ _).0 e in empty_language k (eqb-true _ _ p) (eqb-true _ _ q)
+  fits_of ∅_kind k l e = let (p, q) = (and-eq-true_iff _ _).0 e in empty_language k (eqb-true _ _ p) (eqb-true _ _ q)
   fits_of ε_kind k l e = let (p, q) = (and-eq-true_iff _ _).0 e in empty_word k (eqb-true _ _ p) (eqb-true _ _ q)
   fits_of letter_kind k l e =
       let (range, q) = (and-eq-true_iff (leb 1 w.left && leb w.left 255) (eqb w.right 0)).0 e in
@@ -43,7 +43,7 @@ module _ (w : Row) where
 
   pub tested : FieldsFit w → fields_fit (meaning w.kind) w.left w.right ≡ true
   unfolding fields_fit kind_of_sign
-  tested (empty_language k p q) = tested_as ∅-kind k (rw (eq-eqb _ _ p, eq-eqb _ _ q))
+  tested (empty_language k p q) = tested_as ∅_kind k (rw (eq-eqb _ _ p, eq-eqb _ _ q))
   tested (empty_word k p q) = tested_as ε_kind k (rw (eq-eqb _ _ p, eq-eqb _ _ q))
   tested (letter k p b q) = tested_as letter_kind k (rw (le-leb 1 w.left (omega arith), le-leb w.left 255 (omega arith), eq-eqb _ _ q))
   tested (union k) = tested_as (sign_kind Expression.union) k refl
@@ -74,7 +74,7 @@ module _ (w : Row) where
 
   child_of : (m : Meaning) (c : ℕ) → Numbered m w.kind → Memᴰ c (children m w.left w.right) → ChildOf w c
   unfolding children
-  child_of ∅-kind c k h = absurd (Memᴰ.not-nil h)
+  child_of ∅_kind c k h = absurd (Memᴰ.not-nil h)
   child_of ε_kind c k h = absurd (Memᴰ.not-nil h)
   child_of letter_kind c k h = absurd (Memᴰ.not-nil h)
   child_of (sign_kind s) c k h =
@@ -86,8 +86,8 @@ module _ (w : Row) where
 
   named_by : (m : Meaning) (c : ℕ) → Numbered m w.kind → ChildOf w c → Memᴰ c (children m w.left w.right)
   unfolding children
-  named_by ∅-kind c k (left a b e) = absurd (omega arith)
-  named_by ∅-kind c k (right a b e) = absurd (omega arith)
+  named_by ∅_kind c k (left a b e) = absurd (omega arith)
+  named_by ∅_kind c k (right a b e) = absurd (omega arith)
   named_by ε_kind c k (left a b e) = absurd (omega arith)
   named_by ε_kind c k (right a b e) = absurd (omega arith)
   named_by letter_kind c k (left a b e) = absurd (omega arith)

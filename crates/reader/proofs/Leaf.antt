@@ -8,7 +8,7 @@ use lib.ListN.{length}
 use lib.Dec.{T}
 use Rattle.theory.specs.Expression.{Expression, ε, letter, entries}
 use Rattle.theory.specs.Grammar.{byte_open, byte_0, byte_1, is_letter, makes_entry}
-use Rattle.theory.specs.Scan.{Token, opening, closing, starring, ∅-token, ε_token, other, signing, naming, token, Frame, before, after, next}
+use Rattle.theory.specs.Scan.{Token, opening, closing, starring, ∅_token, ε_token, other, signing, naming, token, Frame, before, after, next}
 use Rattle.theory.proofs.Grammar.Bytes.{MadeOf, token_made_of, token_letter}
 use Rattle.theory.proofs.Grammar.Count.{letter_makes}
 use Rattle.reader.specs.Found.{leaf_of}
@@ -18,7 +18,7 @@ unfolding next leaf_of
 leaf_next fs opening e h = cc
 leaf_next fs closing e h = cc
 leaf_next fs starring e h = cc
-leaf_next fs ∅-token e h = cc
+leaf_next fs ∅_token e h = cc
 leaf_next fs ε_token e h = cc
 leaf_next fs other e h = cc
 leaf_next fs (signing s) e h = cc
@@ -33,8 +33,8 @@ leaf_none fs b h o z = go fs (token b) (token_made_of b) h z
     go gs opening m h z = absurd (o m)
     go gs closing m h z = refl
     go gs starring m h z = refl
-    go [] ∅-token m h z = absurd (z refl m)
-    go (f ∷ gs) ∅-token m h z = refl
+    go [] ∅_token m h z = absurd (z refl m)
+    go (f ∷ gs) ∅_token m h z = refl
     go gs ε_token m h z = cc
     go gs other m h z = refl
     go gs (signing s) m h z = refl
@@ -48,7 +48,7 @@ leaf_makes b e h = go (token b) (token_made_of b) h
     go opening m h = cc
     go closing m h = cc
     go starring m h = cc
-    go ∅-token m h = cc
+    go ∅_token m h = cc
     go ε_token m h = rw m
     go other m h = cc
     go (signing s) m h = cc
@@ -62,7 +62,7 @@ leaf_entries k e h = go k h
     go opening h = cc
     go closing h = cc
     go starring h = cc
-    go ∅-token h = cc
+    go ∅_token h = cc
     go ε_token h = cc
     go other h = cc
     go (signing s) h = cc
@@ -86,7 +86,7 @@ leaf_other b n e = go (token b) (token_made_of b)
     go opening m = refl
     go closing m = refl
     go starring m = refl
-    go ∅-token m = refl
+    go ∅_token m = refl
     go ε_token m = absurd (n m)
     go other m = refl
     go (signing s) m = refl

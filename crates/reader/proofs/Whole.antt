@@ -46,9 +46,9 @@ begun_empty room text at z l = at_end room text 0 0 (before []) (subst (λ (p : 
 abbrev empty_row : Row
 empty_row = entry Kind.empty_language 0 0
 
-∅-next : (b : ℕ) → b ≡ byte_0 → next (before []) (token b) ≡ some ended
+∅_next : (b : ℕ) → b ≡ byte_0 → next (before []) (token b) ≡ some ended
 unfolding next token
-∅-next b e = rw e
+∅_next b e = rw e
 
 module _ (room : ℕ) (text : Text) (t : Table) where
   pub begun_∅ : (at : Point) → at ≡ at_start room → {byte : ℕ} {cursor : Cursor} → ByteAt text at.cursor.at byte cursor → byte ≡ byte_0
@@ -65,7 +65,7 @@ module _ (room : ℕ) (text : Text) (t : Table) where
           record {
             expression = ∅;
             stand = ended;
-            reads = rw (next_at, h.1) (at_entry room text 0 0 (before []) i.inside ended (∅-next (get_or text 0 0) here) (omega arith) (rw here) h.0);
+            reads = rw (next_at, h.1) (at_entry room text 0 0 (before []) i.inside ended (∅_next (get_or text 0 0) here) (omega arith) (rw here) h.0);
             whole = refl;
             ended = λ l. refl;
             counted = h.1;
@@ -73,7 +73,7 @@ module _ (room : ℕ) (text : Text) (t : Table) where
           }
       go (Refused number place) i h =
           let here : get_or text 0 0 ≡ byte_0 = i.here ∙ e in
-          rw (h.1, h.2 ∙ byte_before i) (at_many room text 0 0 (before []) i.inside ended (∅-next (get_or text 0 0) here) (omega arith) (rw here) h.0)
+          rw (h.1, h.2 ∙ byte_before i) (at_many room text 0 0 (before []) i.inside ended (∅_next (get_or text 0 0) here) (omega arith) (rw here) h.0)
 
   pub begun_expression : (at : Point) → at ≡ at_start room → (r : Found) (t' : Table) → Answered room text (begins at t) r t' → Unstarred text r
       → Begun room text t r t'

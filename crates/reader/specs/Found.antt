@@ -7,7 +7,7 @@ use Rattle.theory.specs.Limit.{most_entries, most_open}
 use Rattle.theory.specs.Refusal.{refusal, not_grammar, too_many_entries}
 use Rattle.theory.specs.Table.{Table, table, columns, Row, kind_of_sign}
 use Rattle.theory.specs.Grammar.{Text, Reading, refused, rows, sign_byte, byte_0, byte_close, byte_*}
-use Rattle.theory.specs.Scan.{Token, opening, closing, starring, ∅-token, ε_token, other, signing, naming, Frame, Stand, before, after, scan_from}
+use Rattle.theory.specs.Scan.{Token, opening, closing, starring, ∅_token, ε_token, other, signing, naming, Frame, Stand, before, after, scan_from}
 use Rattle.columns.specs.declared.Cursor.{Cursor}
 use Rattle.columns.specs.Row.{as_row}
 use Rattle.reader.specs.declared.entries.Point.{Point}
@@ -38,7 +38,7 @@ unfoldable pub leaf_of : Token → Option Expression
 leaf_of opening = none
 leaf_of closing = none
 leaf_of starring = none
-leaf_of ∅-token = none
+leaf_of ∅_token = none
 leaf_of ε_token = some ε
 leaf_of other = none
 leaf_of (signing s) = none

@@ -9,10 +9,10 @@ use mathlib.Core.List.{[], ◌∷◌, Memᴰ, nil≢cons}
 use Rattle.theory.specs.Expression.{Expression, ∅, ε, letter, binary, star, union, concatenation, shuffle}
 use Rattle.theory.specs.Language.{Word, In, Shuffled}
 use Rattle.theory.specs.Derivative.{empty_word, listed, derivative}
-use Some.{⊎-iff}
+use Some.{⊎_iff}
 use Together.{together_test}
 use Step.{Derives, distinct_step}
-use Leaf.{∅-step, ε_step, letter_step}
+use Leaf.{∅_step, ε_step, letter_step}
 use Union.{or_true_iff, union_step}
 use Concatenation.{Appended, appended_nil, concatenation_step}
 use Shuffle.{shuffled_nil, shuffle_step}
@@ -33,7 +33,7 @@ empty_word_right ∅ = (false≢true, absurd)
 empty_word_right ε = (λ e. refl, λ e. refl)
 empty_word_right (letter a) = (λ e. absurd (false≢true e), λ e. absurd (nil≢cons e))
 empty_word_right (binary union x y) =
-    Iff.trans (or_true_iff (empty_word x) (empty_word y)) (⊎-iff (empty_word_right x) (empty_word_right y))
+    Iff.trans (or_true_iff (empty_word x) (empty_word y)) (⊎_iff (empty_word_right x) (empty_word_right y))
 empty_word_right (binary concatenation x y) =
     together_test Appended (In x) (In y) appended_nil (empty_word x) (empty_word y) (empty_word_right x) (empty_word_right y)
 empty_word_right (binary shuffle x y) =
@@ -43,7 +43,7 @@ empty_word_right (star x) = (λ e. star_nil x, λ s. refl)
 -- Each of 01's lines for the list is right.
 derives : (a : ℕ) (e : Expression) → Derives a (listed a e) e
 unfolding listed
-derives a ∅ = ∅-step a
+derives a ∅ = ∅_step a
 derives a ε = ε_step a
 derives a (letter b) = letter_step a b
 derives a (binary union x y) = union_step (derives a x) (derives a y)

@@ -9,7 +9,7 @@ use mathlib.Core.List.{List, [], ◌∷◌}
 use lib.ListN.{length, get_or, get_or-eq_default}
 use Rattle.theory.specs.Kind
 use Rattle.theory.specs.Expression.{Sign, union, concatenation, shuffle}
-use Rattle.theory.specs.Table.{Row, entry, Meaning, ∅-kind, ε_kind, letter_kind, sign_kind, star_kind, unknown_kind, kinds, meaning, kind_of_sign, fields_fit, children, row_children}
+use Rattle.theory.specs.Table.{Row, entry, Meaning, ∅_kind, ε_kind, letter_kind, sign_kind, star_kind, unknown_kind, kinds, meaning, kind_of_sign, fields_fit, children, row_children}
 
 -- ---- A list read by places
 
@@ -28,7 +28,7 @@ placed P d i (x ∷ xs) h beyond (suc k) = rw (add-suc, ← suc-add) (placed P d
 
 -- k is the kind of this meaning.
 abbrev pub Numbered : Meaning → ℕ → Type 0
-Numbered ∅-kind k = k ≡ Kind.empty_language
+Numbered ∅_kind k = k ≡ Kind.empty_language
 Numbered ε_kind k = k ≡ Kind.empty_word
 Numbered letter_kind k = k ≡ Kind.letter
 Numbered (sign_kind s) k = k ≡ kind_of_sign s
@@ -55,7 +55,7 @@ no_sign k a b c shuffle e = c e
 
 pub meaning_is : (m : Meaning) (k : ℕ) → Numbered m k → meaning k ≡ m
 unfolding meaning
-meaning_is ∅-kind k e = rw e
+meaning_is ∅_kind k e = rw e
 meaning_is ε_kind k e = rw e
 meaning_is letter_kind k e = rw e
 meaning_is (sign_kind s) k e = ap meaning e ∙ sign_meaning s
@@ -90,7 +90,7 @@ unfolding fields_fit
 fits_other k l r a b c d = go (meaning k) (numbered k)
   where
     go : (m : Meaning) → Numbered m k → fields_fit m l r ≡ true
-    go ∅-kind e = absurd (a e)
+    go ∅_kind e = absurd (a e)
     go ε_kind e = absurd (b e)
     go letter_kind e = absurd (c e)
     go (sign_kind s) e = refl
@@ -113,7 +113,7 @@ module _ (w : Row) where
   children_none a b = go (meaning w.kind) (numbered w.kind)
     where
       go : (m : Meaning) → Numbered m w.kind → children m w.left w.right ≡ []
-      go ∅-kind e = refl
+      go ∅_kind e = refl
       go ε_kind e = refl
       go letter_kind e = refl
       go (sign_kind s) e = absurd (a s e)

@@ -14,7 +14,7 @@ use Rattle.theory.specs.Limit.{most_open}
 use Rattle.theory.specs.Expression.{Expression, Sign, union, concatenation, shuffle, star, binary}
 use Rattle.theory.specs.Refusal.{refusal, not_grammar, too_deep, too_many_entries}
 use Rattle.theory.specs.Grammar.{Text, refused, byte_open, byte_close, byte_*, sign_byte, makes_entry}
-use Rattle.theory.specs.Scan.{Token, opening, closing, starring, ∅-token, ε_token, other, signing, naming, token, Frame, opened, signed, Stand, before, after, next, open_at, finish, scan_from}
+use Rattle.theory.specs.Scan.{Token, opening, closing, starring, ∅_token, ε_token, other, signing, naming, token, Frame, opened, signed, Stand, before, after, next, open_at, finish, scan_from}
 use Rattle.theory.proofs.Grammar.Bytes.{MadeOf, token_made_of}
 
 -- ---- A step
@@ -87,7 +87,7 @@ module _ (x : Expression) (fs : List Frame) (b : ℕ) (n : b ≡ byte_* → ⊥)
       go opening m = refl
       go closing m = unclosed m
       go starring m = absurd (n m)
-      go ∅-token m = refl
+      go ∅_token m = refl
       go ε_token m = refl
       go other m = refl
       go (signing s) m = unsigned s m

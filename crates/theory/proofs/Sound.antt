@@ -13,7 +13,7 @@ use Rattle.theory.specs.Kind
 use Rattle.theory.specs.Limit.{last_letter}
 use Rattle.theory.specs.Expression.{Expression, same, pair, Sign, ∅, ε, letter, binary, star}
 use Rattle.theory.specs.Distinct.{NoRepeats, place}
-use Rattle.theory.specs.Table.{Row, entry, Sound, of_∅, of_ε, of_letter, of_sign, of_star, kind_of_sign, Meaning, ∅-kind, ε_kind, letter_kind, sign_kind, star_kind, unknown_kind, meaning, node, row_tree, fields_fit, children, row_children, Faultless}
+use Rattle.theory.specs.Table.{Row, entry, Sound, of_∅, of_ε, of_letter, of_sign, of_star, kind_of_sign, Meaning, ∅_kind, ε_kind, letter_kind, sign_kind, star_kind, unknown_kind, meaning, node, row_tree, fields_fit, children, row_children, Faultless}
 use Rattle.theory.proofs.Distinct.{place_of}
 use Rattle.theory.proofs.Meaning.{Numbered, numbered, sign_meaning, row_is, children_sign}
 use Rattle.theory.proofs.Tests.{and_left, and_right}
@@ -116,7 +116,7 @@ faultless_sound {n} {i} {w} h = go (meaning w.kind) (numbered w.kind) h.fits h.s
 
     go : (m : Meaning) → Numbered m w.kind → fields_fit m w.left w.right ≡ true
         → ((c : ℕ) → Memᴰ c (children m w.left w.right) → c < i) → Sound i w
-    go ∅-kind e f s = of_∅ (nothing e f)
+    go ∅_kind e f s = of_∅ (nothing e f)
     go ε_kind e f s = of_ε (nothing e f)
     go letter_kind e f s = lettered e f
     go (sign_kind g) e f s =

@@ -10,7 +10,7 @@ use lib.ListN.{length}
 use lib.Dec.{eqb}
 use borrow.Author.Tests.{eq-eqb, ne_eqb, eqb-true}
 use Rattle.theory.specs.Refusal.{not_named_once}
-use Rattle.theory.specs.Table.{Table, Row, row, size, Meaning, ∅-kind, ε_kind, letter_kind, sign_kind, star_kind, unknown_kind, meaning, children, row_children, times, named, naming_fault}
+use Rattle.theory.specs.Table.{Table, Row, row, size, Meaning, ∅_kind, ε_kind, letter_kind, sign_kind, star_kind, unknown_kind, meaning, children, row_children, times, named, naming_fault}
 
 -- ---- A list of children
 
@@ -37,7 +37,7 @@ times_length i (c ∷ cs) = go (eqb c i) (times_length i cs)
 
 two_children : (m : Meaning) (l r : ℕ) → length (children m l r) ≤ 2
 unfolding children
-two_children ∅-kind l r = omega arith
+two_children ∅_kind l r = omega arith
 two_children ε_kind l r = omega arith
 two_children letter_kind l r = omega arith
 two_children (sign_kind s) l r = omega arith

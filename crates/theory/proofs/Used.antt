@@ -7,7 +7,7 @@ use mathlib.Core.List.{List, Memᴰ}
 use lib.ListN.{get_or}
 use Rattle.theory.specs.Kind
 use Rattle.theory.specs.Expression.{Expression, ∅, letters}
-use Rattle.theory.specs.Table.{Table, row, size, tree, row_tree, node, Meaning, ∅-kind, ε_kind, letter_kind, sign_kind, star_kind, unknown_kind, meaning}
+use Rattle.theory.specs.Table.{Table, row, size, tree, row_tree, node, Meaning, ∅_kind, ε_kind, letter_kind, sign_kind, star_kind, unknown_kind, meaning}
 use Rattle.theory.proofs.Meaning.{Numbered, numbered}
 use Rattle.theory.proofs.Trees.{trees_each}
 
@@ -21,7 +21,7 @@ AllEntered t n e = (a : ℕ) → Memᴰ a (letters e) → Entered t n a
 node_entered : (t : Table) (n i : ℕ) (k : Meaning) (l r : ℕ) (ts : List Expression) → i < n → Numbered k (row t i).kind → (row t i).left ≡ l
     → ((j : ℕ) → AllEntered t n (get_or ts j ∅)) → AllEntered t n (node k l r ts)
 unfolding letters node
-node_entered t n i ∅-kind l r ts h p q all a m = absurd (Memᴰ.not-nil m)
+node_entered t n i ∅_kind l r ts h p q all a m = absurd (Memᴰ.not-nil m)
 node_entered t n i ε_kind l r ts h p q all a m = absurd (Memᴰ.not-nil m)
 node_entered t n i letter_kind l r ts h p q all a m = (i, h, p, subst (λ (b : ℕ). (row t i).left ≡ b) (sym (Memᴰ.eq_of_singleton m)) q)
 node_entered t n i (sign_kind s) l r ts h p q all a m = ⊎_elim (all l a) (all r a) (Memᴰ.append_cases (letters (get_or ts l ∅)) m)

@@ -17,7 +17,7 @@ use Rattle.theory.specs.Limit.{most_entries, last_letter}
 use Rattle.theory.specs.Expression.{Expression, ∅, entries, letters}
 use Rattle.theory.specs.Refusal.{Refusal, refusal, or_else, kind_unknown, field_outside, child_not_smaller, empty_language_inside}
 use Rattle.theory.specs.Below.{count_below}
-use Rattle.theory.specs.Table.{Table, Row, row, size, tree, tree_at, trees, row_tree, node, Meaning, ∅-kind, ε_kind, letter_kind, sign_kind, star_kind, unknown_kind, meaning, fields_fit, children, row_children, all_smaller, entry_fault, named, naming_fault, table_refusal, SameLengths, Faultless, WellFormed}
+use Rattle.theory.specs.Table.{Table, Row, row, size, tree, tree_at, trees, row_tree, node, Meaning, ∅_kind, ε_kind, letter_kind, sign_kind, star_kind, unknown_kind, meaning, fields_fit, children, row_children, all_smaller, entry_fault, named, naming_fault, table_refusal, SameLengths, Faultless, WellFormed}
 use Rattle.theory.proofs.Meaning.{Numbered, numbered, meaning_is}
 use Rattle.theory.proofs.FirstFault.{none_at}
 use Rattle.theory.proofs.Times.{once_of}
@@ -100,7 +100,7 @@ well_formed t e = first (ℕ_discrete (length t.left) (size t)) (ℕ_discrete (l
 
 -- A letter counts for one, and no other row by itself.
 one_letter : Meaning → ℕ
-one_letter ∅-kind = 0
+one_letter ∅_kind = 0
 one_letter ε_kind = 0
 one_letter letter_kind = 1
 one_letter (sign_kind s) = 0
@@ -110,7 +110,7 @@ one_letter unknown_kind = 0
 letters_add : (m : Meaning) (l r : ℕ) (ts : List Expression)
     → length (letters (node m l r ts)) ≡ one_letter m + sum_over (λ c. length (letters (get_or ts c ∅))) (children m l r)
 unfolding letters node children one_letter sum_over
-letters_add ∅-kind l r ts = refl
+letters_add ∅_kind l r ts = refl
 letters_add ε_kind l r ts = refl
 letters_add letter_kind l r ts = refl
 letters_add (sign_kind s) l r ts = omega (arith, length-append (letters (get_or ts l ∅)) (letters (get_or ts r ∅)))
@@ -122,7 +122,7 @@ unfolding one_letter
 of_kind k = go (ℕ_discrete k Kind.letter)
   where
     other : (m : Meaning) → Numbered m k → (k ≡ Kind.letter → ⊥) → one_letter m ≡ 0
-    other ∅-kind h d = refl
+    other ∅_kind h d = refl
     other ε_kind h d = refl
     other letter_kind h d = absurd (d h)
     other (sign_kind s) h d = refl
@@ -147,7 +147,7 @@ Lettered e = (a : ℕ) → Memᴰ a (letters e) → (1 ≤ a) × (a ≤ last_let
 
 node_lettered : (m : Meaning) (l r : ℕ) (ts : List Expression) → fields_fit m l r ≡ true → ((j : ℕ) → Lettered (get_or ts j ∅)) → Lettered (node m l r ts)
 unfolding letters node fields_fit
-node_lettered ∅-kind l r ts e h a m = absurd (Memᴰ.not-nil m)
+node_lettered ∅_kind l r ts e h a m = absurd (Memᴰ.not-nil m)
 node_lettered ε_kind l r ts e h a m = absurd (Memᴰ.not-nil m)
 node_lettered letter_kind l r ts e h a m = go (leb 1 l) (leb l last_letter) refl refl e
   where
@@ -210,7 +210,7 @@ module _ {t : Table} (good : WellFormed t) where
   tree_entries = tree_count entries (λ _. 1) adds ∙ sum_ones (size t)
     where
       adds : (m : Meaning) (l r : ℕ) (ts : List Expression) → entries (node m l r ts) ≡ 1 + sum_over (λ c. entries (get_or ts c ∅)) (children m l r)
-      adds ∅-kind l r ts = refl
+      adds ∅_kind l r ts = refl
       adds ε_kind l r ts = refl
       adds letter_kind l r ts = refl
       adds (sign_kind s) l r ts = omega arith

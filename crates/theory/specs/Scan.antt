@@ -9,7 +9,7 @@ use Rattle.theory.specs.Grammar.{Text, Reading, read, refused, byte_open, byte_c
 
 -- What a byte is in 01's grammar.
 pub data Token : Type 0 where
-  opening closing starring ∅-token ε_token other : Token
+  opening closing starring ∅_token ε_token other : Token
   signing : Sign → Token
   naming : ℕ → Token
 
@@ -19,7 +19,7 @@ token b =
     cond (eqb b byte_open) opening
     (cond (eqb b byte_close) closing
     (cond (eqb b byte_*) starring
-    (cond (eqb b byte_0) ∅-token
+    (cond (eqb b byte_0) ∅_token
     (cond (eqb b byte_1) ε_token
     (cond (eqb b byte_+) (signing union)
     (cond (eqb b byte_dot) (signing concatenation)
@@ -48,16 +48,16 @@ sign_read e s (opened ∷ fs) = some (before (signed e s ∷ fs))
 sign_read e s (signed x s' ∷ fs) = none
 
 -- `0` stands only where nothing was read before it.
-unfoldable pub ∅-read : List Frame → Option Stand
-∅-read [] = some ended
-∅-read (f ∷ fs) = none
+unfoldable pub ∅_read : List Frame → Option Stand
+∅_read [] = some ended
+∅_read (f ∷ fs) = none
 
 unfoldable pub next : Stand → Token → Option Stand
-unfolding closed sign_read ∅-read
+unfolding closed sign_read ∅_read
 next (before fs) opening = some (before (opened ∷ fs))
 next (before fs) closing = none
 next (before fs) starring = none
-next (before fs) ∅-token = ∅-read fs
+next (before fs) ∅_token = ∅_read fs
 next (before fs) ε_token = some (after ε fs)
 next (before fs) other = none
 next (before fs) (signing s) = none
@@ -65,7 +65,7 @@ next (before fs) (naming a) = some (after (letter a) fs)
 next (after e fs) opening = none
 next (after e fs) closing = closed e fs
 next (after e fs) starring = some (after (star e) fs)
-next (after e fs) ∅-token = none
+next (after e fs) ∅_token = none
 next (after e fs) ε_token = none
 next (after e fs) other = none
 next (after e fs) (signing s) = sign_read e s fs

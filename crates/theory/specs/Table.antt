@@ -30,14 +30,14 @@ columns ws = record { kind = map (λ (w : Row). w.kind) ws; left = map (λ (w : 
 
 -- 01's table of kinds: the column "meaning".
 pub data Meaning : Type 0 where
-  ∅-kind ε_kind letter_kind : Meaning
+  ∅_kind ε_kind letter_kind : Meaning
   sign_kind : Sign → Meaning
   star_kind unknown_kind : Meaning
 
 -- The same column from kind 0 on.
 abbrev pub kinds : List Meaning
 kinds =
-    ∅-kind ∷ ε_kind ∷ letter_kind ∷ sign_kind union ∷ sign_kind concatenation ∷ sign_kind shuffle ∷ star_kind ∷ []
+    ∅_kind ∷ ε_kind ∷ letter_kind ∷ sign_kind union ∷ sign_kind concatenation ∷ sign_kind shuffle ∷ star_kind ∷ []
 
 unfoldable pub meaning : ℕ → Meaning
 meaning k = get_or kinds k unknown_kind
@@ -62,7 +62,7 @@ pub data Sound (i : ℕ) (w : Row) : Type 0 where
 -- The tree of a row over the trees of the rows before it.
 unfoldable pub node : Meaning → ℕ → ℕ → List Expression → Expression
 unfolding pair
-node ∅-kind l r ts = ∅
+node ∅_kind l r ts = ∅
 node ε_kind l r ts = ε
 node letter_kind l r ts = letter l
 node (sign_kind s) l r ts = pair s (get_or ts l ∅) (get_or ts r ∅)
@@ -95,7 +95,7 @@ tree t = get_or (trees t (size t)) (pred (size t)) ∅
 
 -- The columns "left" and "right" of 01's table of kinds, where they hold no child.
 unfoldable pub fields_fit : Meaning → ℕ → ℕ → Bool
-fields_fit ∅-kind l r = eqb l 0 && eqb r 0
+fields_fit ∅_kind l r = eqb l 0 && eqb r 0
 fields_fit ε_kind l r = eqb l 0 && eqb r 0
 fields_fit letter_kind l r = leb 1 l && leb l last_letter && eqb r 0
 fields_fit (sign_kind s) l r = true
@@ -104,7 +104,7 @@ fields_fit unknown_kind l r = true
 
 -- The same columns where they hold a child.
 unfoldable pub children : Meaning → ℕ → ℕ → List ℕ
-children ∅-kind l r = []
+children ∅_kind l r = []
 children ε_kind l r = []
 children letter_kind l r = []
 children (sign_kind s) l r = l ∷ r ∷ []

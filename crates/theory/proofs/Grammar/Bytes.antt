@@ -9,14 +9,14 @@ use borrow.Author.Tests.{eqb-true, ne_eqb}
 use mir.Facts.{and_yes, or_yes}
 use Rattle.theory.specs.Expression.{union, concatenation, shuffle}
 use Rattle.theory.specs.Grammar.{byte_open, byte_close, byte_*, byte_+, byte_dot, byte_&, byte_0, byte_1, is_letter, sign_byte}
-use Rattle.theory.specs.Scan.{Token, opening, closing, starring, ∅-token, ε_token, other, signing, naming, token}
+use Rattle.theory.specs.Scan.{Token, opening, closing, starring, ∅_token, ε_token, other, signing, naming, token}
 
 -- The byte that a token was made of.
 abbrev pub MadeOf : Token → ℕ → Type 0
 MadeOf opening b = b ≡ byte_open
 MadeOf closing b = b ≡ byte_close
 MadeOf starring b = b ≡ byte_*
-MadeOf ∅-token b = b ≡ byte_0
+MadeOf ∅_token b = b ≡ byte_0
 MadeOf ε_token b = b ≡ byte_1
 MadeOf other b = Unit {0}
 MadeOf (signing s) b = b ≡ sign_byte s
@@ -32,7 +32,7 @@ token_made_of b =
     at byte_open opening _ (λ e. e)
     (at byte_close closing _ (λ e. e)
     (at byte_* starring _ (λ e. e)
-    (at byte_0 ∅-token _ (λ e. e)
+    (at byte_0 ∅_token _ (λ e. e)
     (at byte_1 ε_token _ (λ e. e)
     (at byte_+ (signing union) _ (λ e. e)
     (at byte_dot (signing concatenation) _ (λ e. e)

@@ -7,7 +7,7 @@ use Prim.Native.Nat.{ℕ}
 use native.Mathlib.Omega.{arith}
 use Rattle.theory.specs.Expression.{Expression, union, ∅, ε, letter, binary, star}
 use Rattle.theory.specs.Grammar.{Text, written, sign_byte, byte_open, byte_close, byte_+, byte_0, byte_1, Inner, Writable, Whole, Viable}
-use Rattle.theory.specs.Scan.{Token, opening, closing, starring, ∅-token, ε_token, other, signing, naming, Stand, before, after, ended, Frame, opened, signed, next, token}
+use Rattle.theory.specs.Scan.{Token, opening, closing, starring, ∅_token, ε_token, other, signing, naming, Stand, before, after, ended, Frame, opened, signed, next, token}
 use Rattle.theory.proofs.Grammar.Bytes.{MadeOf, token_made_of}
 use Rattle.theory.proofs.Grammar.Run.{step, run, start, run_append, run_none, run_whole, whole_stand}
 
@@ -49,8 +49,8 @@ unfolding next spell written
 next_spells (before fs) opening b m i = (i, rw m)
 next_spells (before fs) closing b m i = tt
 next_spells (before fs) starring b m i = tt
-next_spells (before []) ∅-token b m i = (tt, rw m)
-next_spells (before (f ∷ fs)) ∅-token b m i = tt
+next_spells (before []) ∅_token b m i = (tt, rw m)
+next_spells (before (f ∷ fs)) ∅_token b m i = tt
 next_spells (before fs) ε_token b m i = ((tt, i), rw m)
 next_spells (before fs) other b m i = tt
 next_spells (before fs) (signing s) b m i = tt
@@ -60,7 +60,7 @@ next_spells (after e []) closing b m i = tt
 next_spells (after e (opened ∷ fs)) closing b m i = tt
 next_spells (after e (signed x s ∷ fs)) closing b m i = (((i.1.0, i.0), i.1.1), rw m (simp append_assoc))
 next_spells (after e fs) starring b m i = (i, rw m (simp append_assoc))
-next_spells (after e fs) ∅-token b m i = tt
+next_spells (after e fs) ∅_token b m i = tt
 next_spells (after e fs) ε_token b m i = tt
 next_spells (after e fs) other b m i = tt
 next_spells (after e []) (signing s) b m i = tt

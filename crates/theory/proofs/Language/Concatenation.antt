@@ -9,7 +9,7 @@ use mathlib.Core.List.{List, [], ◌∷◌, ◌++◌, map, append-nil, append-eq
 use Rattle.theory.specs.Expression.{Expression, binary, concatenation}
 use Rattle.theory.specs.Language.{Word, In}
 use Rattle.theory.specs.Derivative.{joined}
-use Rattle.theory.proofs.Language.Some.{⊎-iff, some_append, some_cond}
+use Rattle.theory.proofs.Language.Some.{⊎_iff, some_append, some_cond}
 use Rattle.theory.proofs.Language.Together.{Together, together_unit_left, together_unit_right}
 use Rattle.theory.proofs.Language.Joined.{Unital, joined_in}
 use Rattle.theory.proofs.Language.Step.{Derives, left_step}
@@ -51,7 +51,7 @@ concatenation_step {a} {x} {y} {xs} {ys} b h dx dy = record {
   words = λ w.
       Iff.trans (some_append (λ m. In m w) (map (λ m. joined concatenation m y) xs) (cond b ys []))
       (Iff.trans
-      (⊎-iff (left_step concatenation Appended (joined_in concatenation (λ h. concatenation_unital)) dx y w)
+      (⊎_iff (left_step concatenation Appended (joined_in concatenation (λ h. concatenation_unital)) dx y w)
       (Iff.trans (some_cond (λ m. In m w) b ys) (Iff.and h (dy.words w))))
       (Iff.symm (concatenation_cons (In x) (In y) a w)));
 }

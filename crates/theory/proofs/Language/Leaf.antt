@@ -10,8 +10,8 @@ use Rattle.theory.specs.Language.{In}
 use Rattle.theory.proofs.Language.Some.{some_none, some_one, some_cond}
 use Rattle.theory.proofs.Language.Step.{Derives}
 
-pub ∅-step : (a : ℕ) → Derives a [] ∅
-∅-step a = record { words = λ w. (some_none (λ m. In m w), absurd) }
+pub ∅_step : (a : ℕ) → Derives a [] ∅
+∅_step a = record { words = λ w. (some_none (λ m. In m w), absurd) }
 
 pub ε_step : (a : ℕ) → Derives a [] ε
 ε_step a = record { words = λ w. (λ s. absurd (some_none (λ m. In m w) s), λ e. absurd (cons≢nil e)) }

@@ -8,7 +8,7 @@ use mathlib.Core.List.{List, [], ◌∷◌, ◌++◌, map, nil≢cons, cons≢ni
 use Rattle.theory.specs.Expression.{Expression, binary, shuffle}
 use Rattle.theory.specs.Language.{Word, Shuffled, In}
 use Rattle.theory.specs.Derivative.{joined}
-use Rattle.theory.proofs.Language.Some.{⊎-iff, some_append}
+use Rattle.theory.proofs.Language.Some.{⊎_iff, some_append}
 use Rattle.theory.proofs.Language.Together.{Together, together_unit_left, together_unit_right}
 use Rattle.theory.proofs.Language.Joined.{Unital, joined_in}
 use Rattle.theory.proofs.Language.Step.{Derives, left_step, right_step}
@@ -64,7 +64,7 @@ shuffle_step {a} {x} {y} {xs} {ys} dx dy = record {
   words = λ w.
       Iff.trans (some_append (λ m. In m w) (map (λ m. joined shuffle m y) xs) (map (λ m. joined shuffle x m) ys))
       (Iff.trans
-      (⊎-iff (left_step shuffle Shuffled (joined_in shuffle (λ h. shuffle_unital)) dx y w)
+      (⊎_iff (left_step shuffle Shuffled (joined_in shuffle (λ h. shuffle_unital)) dx y w)
       (right_step shuffle Shuffled (joined_in shuffle (λ h. shuffle_unital)) x dy w))
       (Iff.symm (shuffle_cons (In x) (In y) a w)));
 }

@@ -9,8 +9,8 @@ use Rattle.theory.specs.Distinct.{distinct}
 use Rattle.theory.proofs.Distinct.{distinct_of, to_distinct}
 
 -- The library has this for the truncated sum alone.
-pub ⊎-iff : {A B C D : Type 0} → A ↔ C → B ↔ D → (A ⊎ B) ↔ (C ⊎ D)
-⊎-iff p q = (⊎_elim (λ a. inl (p.0 a)) (λ b. inr (q.0 b)), ⊎_elim (λ c. inl (p.1 c)) (λ d. inr (q.1 d)))
+pub ⊎_iff : {A B C D : Type 0} → A ↔ C → B ↔ D → (A ⊎ B) ↔ (C ⊎ D)
+⊎_iff p q = (⊎_elim (λ a. inl (p.0 a)) (λ b. inr (q.0 b)), ⊎_elim (λ c. inl (p.1 c)) (λ d. inr (q.1 d)))
 
 abbrev pub Some : {A : Type 0} → (A → Type 0) → List A → Type 0
 Some {A} P xs = (x : A) × Memᴰ x xs × P x

@@ -48,8 +48,8 @@ text-empty c =
 entry-asked : tie.Need-entry-requires
 entry-asked c κs = (search rules, omega (arith, (stepped (∅-byte c).before.before).next))
 
-∅-read : tie.Need-returns-2
-∅-read c =
+∅_read : tie.Need-returns-2
+∅_read c =
     let called = (entry-home c).before.before.before in
     let byte = (∅-byte called.before).before.before in
     let s = entered byte.before.before in
@@ -81,5 +81,5 @@ pub beginning-spec : {M : Type 1} → statement M
 beginning-spec =
     tie.close
     (tie.spec (λ c κs. search rules) (λ c. search rules) (λ c. search rules) text-empty
-    entry-asked (λ c. search rules) (λ c. search rules) (λ c. search rules) ∅-read
+    entry-asked (λ c. search rules) (λ c. search rules) (λ c. search rules) ∅_read
     expression-asked (λ c. search rules) (λ c. search rules) (λ c. search rules) expression-read)

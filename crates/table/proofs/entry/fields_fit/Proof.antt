@@ -6,7 +6,7 @@ use mathlib.Core.Path.{◌≡◌, sym}
 use mathlib.Core.Bool.{◌&&◌}
 use lib.Dec.{eqb}
 use Rattle.theory.specs.Kind
-use Rattle.theory.specs.Table.{∅-kind, ε_kind, letter_kind, star_kind, meaning, fields_fit}
+use Rattle.theory.specs.Table.{∅_kind, ε_kind, letter_kind, star_kind, meaning, fields_fit}
 use Rattle.theory.proofs.Meaning.{fits_as, fits_other}
 use Rattle.table.proofs.entry.fields_fit.Statement.{statement}
 use Rattle.table.proofs.entry.fields_fit.Tie as tie
@@ -17,7 +17,7 @@ unfolding fields_fit
 fits-none k l r h = go (ℕ_discrete k Kind.empty_language)
   where
     go : Dec (k ≡ Kind.empty_language) → fields_fit (meaning k) l r ≡ (eqb l 0 && eqb r 0)
-    go (yes e) = fits_as ∅-kind k l r e
+    go (yes e) = fits_as ∅_kind k l r e
     go (no n) = fits_as ε_kind k l r (omega arith)
 
 -- ---- The places: the arms of a letter and of no field
