@@ -1,13 +1,13 @@
 -- Where a newline stands among the bytes that are not taken yet, and the column holds the bytes before it, all is settled: the line is those
 -- bytes, the block stays as it is, and the next line begins after the newline. What a read would put into the block plays no part.
-use Prim.Native.Nat.{ℕ, ◌+◌, ◌-◌, ◌≤◌, ◌<◌}
+use Prim.Native.Nat.{ℕ, ◌+◌, ◌≤◌, ◌<◌}
 use native.Mathlib.Omega.{arith}
 use mathlib.Core.Path.{◌≡◌, refl, sym, ap, ap₂, ◌∙◌, subst}
-use mathlib.Core.Logic.{◌⊎◌, inl, inr}
+use mathlib.Core.Logic.{inl, inr}
 use mathlib.Core.List.Memᴰ
 use mathlib.Core.List.{List, [], ◌∷◌, ◌++◌, append_assoc, Memᴰ}
 use lib.ListN.{length, take, length-append}
-use lib.Seq.{slice, length-take-le, length-slice}
+use lib.Seq.{length-take-le, length-slice}
 use Rattle.theory.specs.Lines.{newline}
 use Rattle.lines.specs.declared.input.Input.{Input}
 use Rattle.lines.specs.declared.input.Line.{Line}

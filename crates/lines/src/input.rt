@@ -3,8 +3,10 @@
 ghost use Rattle.std.specs.Prelude.{◌<◌, ◌≡◌, length};
 ghost use Rattle.lines.specs.Input.{Inside, Fills, Nexts, Waits, last, Took, TookWhole, Within, line_bytes, Passes};
 
+use std::io::Read;
+
 // The bytes of the lent block from `at` to `end` are read and not yet taken. A block of one byte takes nothing after a newline.
-#[derive(Drop)]
+#[derive(Clone, Copy)]
 pub struct Input {
     pub at: usize,
     pub end: usize,
@@ -17,7 +19,7 @@ enum Next {
     Failed,
 }
 
-#[derive(Drop)]
+#[derive(Clone, Copy)]
 pub enum Line {
     None,
     Ended { length: usize, input: Input },
@@ -47,22 +49,20 @@ enum Filled {
     Failed,
 }
 
-// Whatever a program takes comes by this one call. What it brings is libc's to say.
-fn fill(block: &mut [u8]) -> Filled
+// Whatever a program takes comes by this one call. What it brings is the source's to say.
+fn fill<R: Read>(source: &mut R, block: &mut [u8]) -> Filled
     ensures { Fills result block.new }
 {
-    let got = libc::read(libc::STDIN_FILENO, block);
-    if got < 0 {
+    let Ok(end) = source.read(block) else {
         return Filled::Failed;
-    }
-    let end = io::count(got, block);
+    };
     if end == 0 {
         return Filled::End;
     }
     Filled::To { end }
 }
 
-fn take_byte(block: &mut [u8], input: Input) -> Next
+fn take_byte<R: Read>(source: &mut R, block: &mut [u8], input: Input) -> Next
     requires { Inside input block.old }
     ensures { Nexts block.old input result block.new }
 {
@@ -76,7 +76,7 @@ fn take_byte(block: &mut [u8], input: Input) -> Next
             },
         };
     }
-    match fill(block) {
+    match fill(source, block) {
         Filled::End => Next::End,
         Filled::Failed => Next::Failed,
         Filled::To { end } => Next::Byte {
@@ -103,14 +103,14 @@ pub fn waits(block: &[u8], input: Input) -> bool
 }
 
 // The next line, as far as the column holds it; its newline is taken and not stored.
-pub fn take_line(block: &mut [u8], input: Input, column: &mut [u8]) -> Line
+pub fn take_line<R: Read>(source: &mut R, block: &mut [u8], input: Input, column: &mut [u8]) -> Line
     requires { Inside input block.old }
     ensures { Took block.old input result block.new column.new }
 {
     let mut input = input;
     let mut length = 0;
     while length < column.len() {
-        match take_byte(block, input) {
+        match take_byte(source, block, input) {
             Next::Failed => return Line::Failed,
             Next::End => return last_line(length, input),
             Next::Byte { byte, input: after } => {
@@ -150,14 +150,14 @@ pub fn bytes(line: Line, column: &[u8]) -> &[u8]
 }
 
 // After the rest of a line. A proved loop has to end, and nothing says that a line does: the turns are more than a run has.
-fn rest(block: &mut [u8], input: Input) -> Passed
+fn rest<R: Read>(source: &mut R, block: &mut [u8], input: Input) -> Passed
     requires { Inside input block.old }
     ensures { Passes block.old input result block.new }
 {
     let mut input = input;
     let mut turns = u64::MAX;
     while turns > 0 {
-        match take_byte(block, input) {
+        match take_byte(source, block, input) {
             Next::Failed => return Passed::Failed,
             Next::End => return Passed::To { input },
             Next::Byte { byte, input: after } => {
@@ -173,11 +173,11 @@ fn rest(block: &mut [u8], input: Input) -> Passed
 }
 
 // The next line to its end: of one that fills the column the rest is passed over.
-pub fn next_line(block: &mut [u8], input: Input, column: &mut [u8]) -> Line
+pub fn next_line<R: Read>(source: &mut R, block: &mut [u8], input: Input, column: &mut [u8]) -> Line
     requires { Inside input block.old × (0 < length column.old) }
     ensures { TookWhole block.old input result block.new column.new }
 {
-    let line = take_line(block, input, column);
+    let line = take_line(source, block, input, column);
     match line {
         Line::None => line,
         Line::Ended {
@@ -185,7 +185,7 @@ pub fn next_line(block: &mut [u8], input: Input, column: &mut [u8]) -> Line
             input: _,
         } => line,
         Line::Failed => line,
-        Line::Full { input: so_far } => match rest(block, so_far) {
+        Line::Full { input: so_far } => match rest(source, block, so_far) {
             Passed::To { input: after } => Line::Full { input: after },
             Passed::Failed => Line::Failed,
         },

@@ -8,6 +8,11 @@ ghost use Rattle.lines.specs.Output.{Put, number_room, line_room, Wrote, Roomy};
 // No line of the records program and of the room report, and no refusal, is longer.
 pub const LINE: usize = 128;
 
+// The streams by their numbers.
+const STDOUT: i32 = 1;
+
+const STDERR: i32 = 2;
+
 // Bytes after the used ones.
 pub fn word(block: &mut [u8], used: usize, bytes: &[u8]) -> usize
     requires { used + length bytes.now ≤ length block.old }
@@ -81,7 +86,7 @@ fn hand_over(stream: i32, bytes: &[u8]) -> Written
 pub fn write(bytes: &[u8]) -> Written
     ensures { Wrote (length bytes.now) result }
 {
-    hand_over(libc::STDOUT_FILENO, bytes)
+    hand_over(STDOUT, bytes)
 }
 
 #[derive(Drop)]
@@ -112,11 +117,11 @@ pub fn with_room(block: &[u8], used: usize, waits: bool) -> Room
 pub fn tell_read_failed() -> Written
     ensures { Wrote 29 result }
 {
-    hand_over(libc::STDERR_FILENO, b"gumpaleri 0.4.0: read failed\n")
+    hand_over(STDERR, b"gumpaleri 0.4.0: read failed\n")
 }
 
 pub fn tell_write_failed() -> Written
     ensures { Wrote 30 result }
 {
-    hand_over(libc::STDERR_FILENO, b"gumpaleri 0.4.0: write failed\n")
+    hand_over(STDERR, b"gumpaleri 0.4.0: write failed\n")
 }

@@ -8,6 +8,7 @@ ghost use Rattle.lines.specs.Turn.{Asks};
 use crate::input::{Input, Line};
 use crate::output::Room;
 use crate::{input, output};
+use std::io::Read;
 
 #[derive(Drop)]
 pub enum Asked {
@@ -16,7 +17,14 @@ pub enum Asked {
 }
 
 // The next line, and how much of the block is used still. What is answered is written out before a read, and so before the end of the input.
-pub fn ask(taken: &mut [u8], input: Input, column: &mut [u8], block: &[u8], used: usize) -> Asked
+pub fn ask<R: Read>(
+    source: &mut R,
+    taken: &mut [u8],
+    input: Input,
+    column: &mut [u8],
+    block: &[u8],
+    used: usize,
+) -> Asked
     requires inside { Inside input taken.old × (0 < length column.old) }
     requires used_in_bounds { (used ≤ length block.now) × (line_room ≤ length block.now) }
     ensures { Asks taken.old input (length block.now) used result taken.new column.new }
@@ -28,7 +36,7 @@ pub fn ask(taken: &mut [u8], input: Input, column: &mut [u8], block: &[u8], used
             used: kept,
             written: _,
         } => Asked::Line {
-            line: input::next_line(taken, input, column),
+            line: input::next_line(source, taken, input, column),
             used: kept,
         },
     }
