@@ -1,5 +1,7 @@
 // Reads one expression line and prints its automaton in the AT&T/OpenFst text format (01, "Two programs").
 
+#![tactic(auto)]
+
 ghost use Rattle.std.specs.Prelude.{◌+◌, ◌*◌, ◌≤◌, ◌<◌, length};
 ghost use Rattle.theory.specs.Arcs.{arc_columns};
 ghost use Rattle.theory.specs.Lines.{arc_line};
@@ -114,12 +116,13 @@ fn print(line: Line, column: &[u8]) -> Written
     hand_on(text, &block[..used])
 }
 
-fn main() {
+fn main(rt: HostRuntime) {
+    let mut source = rt.stdin();
     // One byte at a time. 01: "nothing after it read".
     let mut taken = [0u8; 1];
     // A byte more than a text may have: of a longer line the reader sees that it is longer.
     let mut column = [0u8; limit::TEXT + 1];
-    let line = lines::input::take_line(&mut taken, Input::start(), &mut column);
+    let line = lines::input::take_line(&mut source, &mut taken, Input::start(), &mut column);
     if let Line::Failed = line {
         output::tell_read_failed();
         return;

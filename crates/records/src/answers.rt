@@ -14,6 +14,7 @@ use lines::input::{Input, Line};
 use lines::output;
 use lines::turn::Asked;
 use matcher::Judgement;
+use std::io::Read;
 
 fn line(block: &mut [u8], used: usize, word: &[u8], n: usize) -> usize
     requires { used + (length word.now + number_room) ≤ length block.old }
@@ -90,7 +91,8 @@ pub enum Turn {
 }
 
 // The next line and its answer.
-pub fn answer_next(
+pub fn answer_next<R: Read>(
+    source: &mut R,
     text: &[u8],
     taken: &mut [u8],
     input: Input,
@@ -112,7 +114,7 @@ pub fn answer_next(
     requires used_in_bounds { (used ≤ length block.old) × (line_room ≤ length block.old) }
     ensures { Turned text.now taken.old input block.old used result taken.new column.new block.new }
 {
-    match lines::turn::ask(taken, input, column, block, used) {
+    match lines::turn::ask(source, taken, input, column, block, used) {
         Asked::WriteFailed => Turn::WriteFailed,
         Asked::Line { line, used: left } => {
             let answered = answer(

@@ -1,5 +1,7 @@
 // Reads an expression line, then judges one record per line (01, "Two programs").
 
+#![tactic(auto)]
+
 mod answers;
 
 ghost use Rattle.std.specs.Prelude.{◌≤◌, length};
@@ -17,6 +19,7 @@ use lines::input::{Input, Line};
 use lines::output;
 use lines::output::Written;
 use site::Site;
+use std::io::Read;
 use theory::limit;
 
 // 01, refusal 16: "record line over 4,096 bytes".
@@ -30,7 +33,8 @@ const TAKEN: usize = 65536;
 const ANSWERS: usize = 4096;
 
 // The records that are still to come.
-fn judge(
+fn judge<R: Read>(
+    source: &mut R,
     text: &[u8],
     taken: &mut [u8],
     input: Input,
@@ -55,6 +59,7 @@ fn judge(
     while turns > 0 {
         turns -= 1;
         match answers::answer_next(
+            source,
             text,
             taken,
             input,
@@ -134,7 +139,7 @@ fn automaton_of(
 }
 
 // 01: "the records program stops there if the expression was refused".
-fn run(line: Line, column: &[u8], taken: &mut [u8], input: Input)
+fn run<R: Read>(source: &mut R, line: Line, column: &[u8], taken: &mut [u8], input: Input)
     requires { Whole longest_text line column.now × Inside input taken.old }
 {
     let mut accepting = [0u8; site::STATES];
@@ -153,6 +158,7 @@ fn run(line: Line, column: &[u8], taken: &mut [u8], input: Input)
     ) {
         Start::Refused { used } => write_out(&block[..used]),
         Start::Built { states, arcs } => judge(
+            source,
             lines::input::bytes(line, column),
             taken,
             input,
@@ -166,15 +172,16 @@ fn run(line: Line, column: &[u8], taken: &mut [u8], input: Input)
     }
 }
 
-fn main() {
+fn main(rt: HostRuntime) {
+    let mut source = rt.stdin();
     let mut taken = [0u8; TAKEN];
     // A byte more than a text may have: of a longer line the reader sees that it is longer.
     let mut column = [0u8; limit::TEXT + 1];
-    let line = lines::input::take_line(&mut taken, Input::start(), &mut column);
+    let line = lines::input::take_line(&mut source, &mut taken, Input::start(), &mut column);
     match line {
-        Line::None => run(line, &column, &mut taken, Input::start()),
-        Line::Ended { length: _, input } => run(line, &column, &mut taken, input),
-        Line::Full { input } => run(line, &column, &mut taken, input),
+        Line::None => run(&mut source, line, &column, &mut taken, Input::start()),
+        Line::Ended { length: _, input } => run(&mut source, line, &column, &mut taken, input),
+        Line::Full { input } => run(&mut source, line, &column, &mut taken, input),
         Line::Failed => {
             output::tell_read_failed();
         }

@@ -16,6 +16,7 @@ use lines::output;
 use lines::turn::Asked;
 use site::Site;
 use site::totals::Totals;
+use std::io::Read;
 
 // 2026-01: "per line, single-spaced, entries, letters, states, expressions and arcs, or the refusal".
 pub fn line(block: &mut [u8], used: usize, site: Site) -> usize
@@ -84,7 +85,8 @@ pub enum Turn {
 }
 
 // The next line and its report.
-pub fn answer_next(
+pub fn answer_next<R: Read>(
+    source: &mut R,
     taken: &mut [u8],
     input: Input,
     column: &mut [u8],
@@ -97,8 +99,9 @@ pub fn answer_next(
     requires fits { (t : Text) → Fits (with_report (values totals) (report t)) }
     ensures { Turned taken.old input (values totals) block.old used result taken.new block.new }
 {
-    let Asked::Line { line, used: left } = lines::turn::ask(taken, input, column, block, used)
-    else {
+    let Asked::Line { line, used: left } = lines::turn::ask(
+        source, taken, input, column, block, used,
+    ) else {
         return Turn::WriteFailed;
     };
     match line {

@@ -1,5 +1,7 @@
 // 2026-01: what each site of a list takes of the programs' rooms, and the totals of the list.
 
+#![tactic(auto)]
+
 mod answers;
 
 ghost use Rattle.std.specs.Prelude.{◌+◌, ◌≤◌, ◌≡◌, length};
@@ -15,6 +17,7 @@ use lines::output;
 use lines::output::Written;
 use lines::turn::Asked;
 use site::totals::Totals;
+use std::io::Read;
 use theory::limit;
 
 const TAKEN: usize = 65536;
@@ -29,7 +32,8 @@ enum Reported {
 }
 
 // 22: "more than 100,000 lines, printed after the first 100,000 in place of the totals".
-fn end(
+fn end<R: Read>(
+    source: &mut R,
     taken: &mut [u8],
     input: Input,
     column: &mut [u8],
@@ -41,8 +45,9 @@ fn end(
     requires used_in_bounds { (used ≤ length block.old) × (line_room ≤ length block.old) }
     ensures { Ends taken.old input (values totals) block.old used result taken.new block.new }
 {
-    let Asked::Line { line, used: left } = lines::turn::ask(taken, input, column, block, used)
-    else {
+    let Asked::Line { line, used: left } = lines::turn::ask(
+        source, taken, input, column, block, used,
+    ) else {
         return Reported::WriteFailed;
     };
     match line {
@@ -63,7 +68,13 @@ fn end(
 }
 
 // The report on all lines from here on, up to what the block holds of it at the end.
-fn report(taken: &mut [u8], start: Input, column: &mut [u8], block: &mut [u8]) -> Reported
+fn report<R: Read>(
+    source: &mut R,
+    taken: &mut [u8],
+    start: Input,
+    column: &mut [u8],
+    block: &mut [u8],
+) -> Reported
     requires { Inside start taken.old × (length column.old ≡ longest_text + 1) × (line_room ≤ length block.old) }
     ensures { Reports taken.old start result block.new }
 {
@@ -72,7 +83,7 @@ fn report(taken: &mut [u8], start: Input, column: &mut [u8], block: &mut [u8]) -
     let mut used = 0;
     let mut lines = 0;
     while lines < limit::LINES {
-        match answers::answer_next(taken, input, column, totals, block, used) {
+        match answers::answer_next(source, taken, input, column, totals, block, used) {
             Turn::Next {
                 input: after,
                 standing,
@@ -92,7 +103,7 @@ fn report(taken: &mut [u8], start: Input, column: &mut [u8], block: &mut [u8]) -
             Turn::WriteFailed => return Reported::WriteFailed,
         }
     }
-    end(taken, input, column, totals, block, used)
+    end(source, taken, input, column, totals, block, used)
 }
 
 // What is handed on last ends a report.
@@ -103,12 +114,19 @@ fn hand_on(bytes: &[u8]) -> Written
     output::write(bytes)
 }
 
-fn main() {
+fn main(rt: HostRuntime) {
+    let mut source = rt.stdin();
     let mut taken = [0u8; TAKEN];
     // A byte more than a text may have: of a longer line the reader sees that it is longer.
     let mut column = [0u8; limit::TEXT + 1];
     let mut block = [0u8; ANSWERS];
-    match report(&mut taken, Input::start(), &mut column, &mut block) {
+    match report(
+        &mut source,
+        &mut taken,
+        Input::start(),
+        &mut column,
+        &mut block,
+    ) {
         Reported::All { used } => {
             if let Written::Failed = hand_on(&block[..used]) {
                 output::tell_write_failed();
