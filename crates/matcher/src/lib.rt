@@ -1,5 +1,7 @@
 // The matcher: judges a record over any automaton that it is handed, and trusts none of it.
 
+#![tactic(auto)]
+
 mod checks;
 mod moves;
 

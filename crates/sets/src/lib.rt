@@ -1,5 +1,7 @@
 // Sets of numbers in 64-bit words, one bit per number.
 
+#![tactic(auto)]
+
 ghost use Rattle.std.specs.Prelude.{◌≡◌, false, cond, ◌||◌, ℕ, ◌*◌, ◌/◌, ◌≤◌, ◌<◌, length, eqb, ltb};
 ghost use Rattle.theory.specs.Limit.{most_states};
 ghost use Rattle.theory.specs.Below.{some_below, count_below};

@@ -1,0 +1,19 @@
+-- `answer` meets its contract: each of its answers is the verdict with live.
+use Rattle.std.proofs.Common.{ℕ, ◌*◌, sym, ap, ◌∙◌}
+use Rattle.theory.specs.Below.{count_below}
+use Rattle.sets.specs.Bits.{bit}
+use Rattle.matcher.proofs.Answered.{answered_wrong, answered_whole}
+use Rattle.matcher.proofs.moves.answer.Goals as goal
+
+pub returns-in-Dead : goal.returns-in-Dead
+returns-in-Dead c = λ a k h w e. answered_wrong _ h e c.in-Dead.is
+
+pub returns-then-accepts : goal.returns-then-accepts
+returns-then-accepts c = λ a k h w e.
+    answered_whole _ h e c.in-Whole.is (sym c.if-accepts.true ∙ c.accepts.ensures)
+    (c.count-live.ensures ∙ ap (λ (n : ℕ). count_below (n * 64) (bit c.args.current.now)) c.words.ensures)
+
+pub returns-else-accepts : goal.returns-else-accepts
+returns-else-accepts c = λ a k h w e.
+    answered_whole _ h e c.in-Whole.is (sym c.if-accepts.false ∙ c.accepts.ensures)
+    (c.count-live.ensures ∙ ap (λ (n : ℕ). count_below (n * 64) (bit c.args.current.now)) c.words.ensures)
