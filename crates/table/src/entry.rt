@@ -40,7 +40,11 @@ fn fault(entries: usize, i: usize, w: Row) -> u8
     if kind::LAST < kind {
         return refusal::KIND_UNKNOWN;
     }
-    if !fields_fit(w) {
+    if !fields_fit(Row {
+        kind,
+        left: w.left,
+        right: w.right,
+    }) {
         return refusal::FIELD_OUTSIDE;
     }
     if !children_smaller(i, w) {

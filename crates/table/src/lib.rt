@@ -1,5 +1,7 @@
 // The check of an expression table. 01: "Builder: 1, 2, 3, then entries from 0 upward, each checked for 4, 5, 6, 7; then 8".
 
+#![tactic(auto)]
+
 mod entry;
 mod naming;
 
