@@ -1,4 +1,6 @@
-// 2026-02: reader, builder and matcher for C, on numbers and slices. include/gumpaleri.h has the same functions.
+// 2026-02: reader, builder and matcher for C, on numbers and slices. The crate host_c exports the same functions, and include/gumpaleri.h has them.
+
+#![tactic(auto)]
 
 ghost use Rattle.std.specs.Prelude.{◌≡◌, ◌≤◌, ◌<◌, length, get_or};
 ghost use Rattle.theory.specs.Refusal.{refusal, success};
@@ -50,8 +52,7 @@ fn refused(counts: &mut [u64], number: u8, place: usize) -> u64
     number as u64 * 4294967296 + place as u64
 }
 
-#[unsafe(no_mangle)]
-pub extern "C" fn gumpaleri_read(
+pub fn gumpaleri_read(
     text: &[u8],
     kind: &mut [u8],
     left: &mut [u16],
@@ -71,8 +72,7 @@ pub extern "C" fn gumpaleri_read(
     }
 }
 
-#[unsafe(no_mangle)]
-pub extern "C" fn gumpaleri_build(
+pub fn gumpaleri_build(
     kind: &[u8],
     left: &[u16],
     right: &[u16],
@@ -112,8 +112,7 @@ pub extern "C" fn gumpaleri_build(
     }
 }
 
-#[unsafe(no_mangle)]
-pub extern "C" fn gumpaleri_judge(
+pub fn gumpaleri_judge(
     states: usize,
     accepting: &[u8],
     arcs: usize,
