@@ -1,4 +1,5 @@
 -- `left_side` gives the left side of a row, by the row's kind.
+use Rattle.std.proofs.Common.{arith}
 use Rattle.theory.specs.Expression.{union, concatenation, shuffle}
 use Rattle.theory.specs.Table.{sign_kind, star_kind, kind_of_sign}
 use Rattle.theory.proofs.Meaning.{no_sign}
@@ -21,4 +22,5 @@ pub returns-in-6 : goal.returns-in-6
 returns-in-6 c = left_as _ _ c.row_at-w.ensures star_kind c.in-6.is
 
 pub returns-in_default : goal.returns-in_default
-returns-in_default c = let h = c.in_default in ?
+returns-in_default c =
+    left_none _ _ c.row_at-w.ensures (no_sign _ (λ e. omega arith) (λ e. omega arith) (λ e. omega arith)) (λ e. omega arith)
