@@ -4,7 +4,7 @@ use Rattle.theory.specs.Table.{of_star}
 use Rattle.derive.proofs.Coming.{fitted_then}
 use Rattle.derive.proofs.Growing.{sound_to_less}
 use Rattle.derive.proofs.Reading.{reads, leaf_read, star_read, sign_read}
-use Rattle.derive.proofs.Taking.{took, takes_leaf, takes_star, star_full, left_full, right_full, pair_sound, takes_pair}
+use Rattle.derive.proofs.Taking.{took, full_of, takes_leaf, takes_star, star_full, left_full, right_full, pair_sound, takes_pair}
 use Rattle.derive.proofs.rows.+take_over.Goals as goal
 
 -- ---- A leaf
@@ -34,7 +34,9 @@ returns-in-At t c =
     (took c.in-At.is c.take_over.ensures) c.intern-in-At.ensures
 
 pub returns-in_default : goal.returns-in_default
-returns-in_default t c = let h = c.in_default in ?
+returns-in_default t c =
+    star_full (reads c.row_at-w.result c.children.result c.requires.sound_to c.row_at-w.ensures c.children.ensures) c.in-One.is
+    (full_of _ c.in_default.not-At) c.take_over.ensures
 
 -- ---- A sign
 
@@ -58,10 +60,19 @@ intern-requires-in-At-take_over-2-clause-sound t c =
     pair_sound k c.in-Two.is a b c.pair-paired.ensures
 
 pub returns-in-At-take_over-2 : goal.returns-in-At-take_over-2
-returns-in-At-take_over-2 t c = ?
+returns-in-At-take_over-2 t c =
+    let k = reads c.row_at-w.result c.children.result c.requires.sound_to c.row_at-w.ensures c.children.ensures in
+    let a = took c.in-At-take_over.is c.take_over-in-Two.ensures in
+    let b = took c.in-At-take_over-2.is c.take_over-in-At-take_over.ensures in
+    takes_pair k c.in-Two.is a b c.pair-paired.ensures c.intern-in-At-take_over-2.ensures
 
 pub returns-in_default-take_over-2 : goal.returns-in_default-take_over-2
-returns-in_default-take_over-2 t c = ?
+returns-in_default-take_over-2 t c =
+    let k = reads c.row_at-w.result c.children.result c.requires.sound_to c.row_at-w.ensures c.children.ensures in
+    let a = took c.in-At-take_over.is c.take_over-in-Two.ensures in
+    right_full k c.in-Two.is a (full_of _ c.in_default-take_over-2.not-At) c.take_over-in-At-take_over.ensures
 
 pub returns-in_default-take_over : goal.returns-in_default-take_over
-returns-in_default-take_over t c = ?
+returns-in_default-take_over t c =
+    left_full (reads c.row_at-w.result c.children.result c.requires.sound_to c.row_at-w.ensures c.children.ensures) c.in-Two.is
+    (full_of _ c.in_default-take_over.not-At) c.take_over-in-Two.ensures
