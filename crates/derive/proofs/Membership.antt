@@ -93,6 +93,11 @@ pub record TwoSides (t : Table) (n i : ℕ) (x y : Side) : Type 0 where
   pub left : x ≡ left_side t i
   pub right : y ≡ right_side t i
 
+-- As the code reads the row, which is w.
+pub two_sides : {t : Table} {n i : ℕ} {w : Row} {x y : Side} → Rows t n → i < n → w ≡ row t i → (w.kind ≡ Kind.letter → ⊥) → x ≡ left_side t i
+    → y ≡ right_side t i → TwoSides t n i x y
+two_sides h l e d p q = record { rows = h; within = l; no_letter = λ z. d (ap (λ (v : Row). v.kind) e ∙ z); left = p; right = q }
+
 module _ {t : Table} {n i : ℕ} {x y : Side} (k : TwoSides t n i x y) where
   left_row : WithinRow n i x
   left_row = subst (WithinRow n i) (sym k.left) (left_side_within k.rows k.within)
@@ -145,6 +150,10 @@ pub record Lower (t : Table) (n : ℕ) (side : Side) (child other : ℕ) (join :
   pub within : WithinRow n n side
   pub place : p < n
   pub lowered_is : r ≡ lowered t other join p
+
+pub lower_told : {t : Table} {n : ℕ} {side : Side} {child other : ℕ} {join : Join} {p : ℕ} {r : Lowered} → Rows t n → side ≡ Of child other join
+    → WithinRow n n side → p < n → r ≡ lowered t other join p → Lower t n side child other join p r
+lower_told h e w l q = record { rows = h; is = e; within = w; place = l; lowered_is = q }
 
 module _ {t : Table} {n : ℕ} {side : Side} {child other : ℕ} {join : Join} {p : ℕ} {r : Lowered} (k : Lower t n side child other join p r) where
   pub child_within : child < n

@@ -14,7 +14,8 @@ use Rattle.theory.proofs.Meaning.{kind_is, children_sign, children_star}
 use Rattle.theory.proofs.Pair.{pair_empty_word}
 use Rattle.theory.proofs.Sound.{Parent, parent, of_none, of_one, of_two}
 use Rattle.theory.proofs.Rooted.{Rooted, ∅_row, ε_row, letter_row, sign_row, star_row, rooted, tree_sign, tree_star}
-use Rattle.columns.specs.Row.{as_children}
+use Rattle.columns.specs.Row.{as_row, as_children}
+use Rattle.columns.specs.declared.Row.{Row as Taken}
 use Rattle.columns.specs.declared.Children.{Children}
 use Rattle.columns.specs.declared.Children.TheVariants.{Nothing, One, Two}
 use Rattle.derive.specs.Rows.{SoundTo}
@@ -28,6 +29,11 @@ pub record Read (t : Table) (i : ℕ) (w : Row) (r : Children) : Type 0 where
   pub sound : SoundTo t i
   pub is : w ≡ row t i
   pub named : as_children r ≡ row_children w
+
+-- As the code reads it.
+pub reads : {t : Table} {i : ℕ} (w : Taken) (r : Children) → SoundTo t i → as_row w ≡ row t i → as_children r ≡ row_children (as_row w)
+    → Read t i (as_row w) r
+reads w r s e n = record { sound = s; is = e; named = n }
 
 module _ {t : Table} {i : ℕ} {w : Row} {r : Children} (k : Read t i w r) where
   row_sound : Sound i (row t i)

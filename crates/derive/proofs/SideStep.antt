@@ -65,6 +65,11 @@ pub record Inner (t : Table) (n a : ℕ) (side : Side) (child other : ℕ) (join
   pub place_in : InList t n place (side_list a t side)
   pub lowered : inner ≡ lowered_place t other join place
 
+pub inner_told : {t : Table} {n : ℕ} (a : ℕ) {side : Side} {child other : ℕ} {join : Join} (place : Place) {inner : Place} → Rows t n
+    → side ≡ Of child other join → WithinRow n n side → InList t n place (side_list a t side) → inner ≡ lowered_place t other join place
+    → Inner t n a side child other join place inner
+inner_told a place h e w i q = record { rows = h; is = e; within = w; place_in = i; lowered = q }
+
 module _ {t : Table} {n a : ℕ} {side : Side} {child other : ℕ} {join : Join} {place inner : Place} (k : Inner t n a side child other join place inner) where
   abbrev ms : List Expression
   ms = derivative a (tree_at t child)

@@ -2,7 +2,7 @@
 use Prim.Native.Nat.{ℕ, ◌≤◌, ◌<◌}
 use native.Mathlib.Nat.{lt_of_lt_of_le}
 use native.Mathlib.Omega.{arith}
-use mathlib.Core.Path.{◌≡◌, sym, ap, ap₂, ◌∙◌, subst}
+use mathlib.Core.Path.{◌≡◌, refl, sym, ap, ap₂, ◌∙◌, subst}
 use mathlib.Core.Logic.{inr}
 use mathlib.Core.List.Memᴰ
 use mathlib.Core.List.{Memᴰ}
@@ -36,6 +36,11 @@ took q h = (answered_as q h).answer
 pub took_not : {t t' : Table} {n room : ℕ} {e : Expression} {r : Interned} → r ≡ Full → Takes t n room e r t'
     → Short t n room (λ z. Memᴰ z (parts e)) t'
 took_not q h = (answered_as q h).answer
+
+-- What is not a row is no room.
+pub full_of : (r : Interned) → ((i n : ℕ) → r ≡ At i n → ⊥) → r ≡ Full
+full_of (At i n) d = absurd (d i n refl)
+full_of Full d = refl
 
 -- A row number fits 16 bits.
 pub named_small : {t t' : Table} {n room : ℕ} {e : Expression} {i n' : ℕ} → Fitted t n room → Took t n room e i t' n' → i ≤ most_expressions

@@ -13,7 +13,7 @@ use columns::Row;
 use theory::kind;
 
 // A member followed by the other tree, shuffled with it, or with the other shuffled with the member.
-#[derive(Drop)]
+#[derive(Clone, Copy)]
 pub enum Join {
     Followed,
     Shuffled,
@@ -21,7 +21,7 @@ pub enum Join {
 }
 
 // The members of `child`, each joined with `other`.
-#[derive(Drop)]
+#[derive(Clone, Copy)]
 pub enum Side {
     Nothing,
     Of {

@@ -12,7 +12,7 @@ use super::sides::{Join, Lowered, Side};
 use theory::kind;
 
 // Where a walk stands: before the list, or at one of its members.
-#[derive(Drop)]
+#[derive(Clone, Copy)]
 pub enum Place {
     Start,
     Behind { row: usize },
