@@ -1,5 +1,5 @@
 -- What an answer says, once a match has told which it is.
-use mathlib.Core.Path.{◌≡◌, subst}
+use mathlib.Core.Path.{◌≡◌, refl, subst}
 use mathlib.Core.List.{List}
 use Prim.Native.Nat.{ℕ}
 use Rattle.theory.specs.Expression.{Expression}
@@ -11,9 +11,12 @@ use Rattle.builder.specs.Letters.{IsNext, IsTurn}
 use Rattle.builder.specs.Progress.{Met, Begun, Reaches}
 use Rattle.builder.specs.declared.letters.Letters.{Letters}
 use Rattle.builder.specs.declared.letters.Next.{Next}
+use Rattle.builder.specs.declared.letters.Next.TheVariants.{Letter, Over}
 use Rattle.builder.specs.declared.letters.Turn.{Turn}
+use Rattle.builder.specs.declared.letters.Turn.TheVariants.{To, Done}
 use Rattle.builder.specs.declared.arcs.Counts.{Counts}
 use Rattle.builder.specs.declared.arcs.Went.{Went}
+use Rattle.builder.specs.declared.arcs.Went.TheVariants.{On, NoRoom}
 
 pub next_as : (letters : Letters) (a : ℕ) {n n' : Next} → n ≡ n' → IsNext letters a n → IsNext letters a n'
 next_as letters a q h = subst (IsNext letters a) q h
@@ -32,3 +35,16 @@ reaches_as {e} {rooms} {c = c} q r = subst (λ v. Reaches e rooms v c) q r
 
 pub begun_as : (e : Expression) (rooms : Counts) (t : Table) (x a : List ℕ) {w w' : Went} → w ≡ w' → Begun e rooms w t x a → Begun e rooms w' t x a
 begun_as e rooms t x a q h = subst (λ v. Begun e rooms v t x a) q h
+
+-- What is not the one answer is the other.
+pub over_of : (n : Next) → ((a : ℕ) → n ≡ Letter a → ⊥) → n ≡ Over
+over_of (Letter a) d = absurd (d a refl)
+over_of Over d = refl
+
+pub done_of : (t : Turn) → ((j b : ℕ) → t ≡ To j b → ⊥) → t ≡ Done
+done_of (To j b) d = absurd (d j b refl)
+done_of Done d = refl
+
+pub no_room_of : (w : Went) → ((k : Counts) → w ≡ On k → ⊥) → w ≡ NoRoom
+no_room_of (On k) d = absurd (d k refl)
+no_room_of NoRoom d = refl

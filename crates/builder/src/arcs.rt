@@ -7,7 +7,7 @@ ghost use Rattle.theory.specs.Arcs.{arc_columns, with_arc};
 ghost use Rattle.theory.specs.Build.{lent};
 ghost use Rattle.builder.specs.Progress.{FirstEqual, Ready, Meets, Met};
 
-#[derive(Drop)]
+#[derive(Clone, Copy)]
 pub struct Counts {
     pub rows: usize,
     pub states: usize,

@@ -5,7 +5,7 @@ ghost use Rattle.theory.specs.Limit.{most_states};
 ghost use Rattle.builder.specs.Letters.{Gathers, IsNext, IsTurn};
 
 // A set of letters: one mark for each byte value.
-#[derive(Drop)]
+#[derive(Clone, Copy)]
 pub struct Letters {
     pub marks: [bool; 256],
 }

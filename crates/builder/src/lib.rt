@@ -1,5 +1,7 @@
 // The builder: the partial derivative automaton of an expression table, in the lent columns.
 
+#![tactic(auto)]
+
 mod arcs;
 mod letters;
 mod states;
@@ -18,7 +20,7 @@ use arcs::{Counts, Went};
 use table::Checked;
 
 // 01: refused with 1 to 9, or the three counts.
-#[derive(Drop)]
+#[derive(Clone, Copy)]
 pub enum Building {
     Refused {
         number: u8,
