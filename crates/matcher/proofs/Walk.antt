@@ -16,7 +16,7 @@ use Rattle.theory.specs.Record.{Work, work, cleared, words}
 use Rattle.theory.proofs.Below.{some_cong}
 use Rattle.theory.proofs.Reached.{moved_cong, moved_below, leads_on_moved, after_take, after_below, start_below, dead_later, dead_here, dead_never}
 use Rattle.sets.specs.Bits.{bit}
-use Rattle.matcher.specs.Moves.{Inside, Checked, Ready, Ended}
+use Rattle.matcher.specs.Moves.{Checked, Ready, Ended}
 use Rattle.matcher.specs.declared.moves.Walked.TheVariants.{Whole, Dead}
 
 -- ---- Work columns of the same lengths
@@ -42,15 +42,6 @@ module _ {n : ℕ} {a : Arcs} {k₀ k : Work} (h : Checked n a k₀) (same : Sam
     to_below = h.to_below;
     enough = record { current = rw same.current h.enough.current; next = rw same.next h.enough.next };
   }
-
-  pub inside : Inside a k
-  inside =
-      let enough = checked_kept.enough in
-      record {
-        spans = h.spans;
-        from_held = λ i l. let below = h.from_below i l in let room = enough.current in omega arith;
-        to_held = λ i l. let below = h.to_below i l in let room = enough.next in omega arith;
-      }
 
 -- ---- At a place
 

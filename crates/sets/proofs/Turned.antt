@@ -70,9 +70,3 @@ turned_more {current₀} {next₀} {current} {next} {any} {i} r lc ln small =
           ap₂ (λ (b : Bool) (w : ℕ). b || not (eqb w 0)) r.set_so_far word
           ∙ sym (some_block next₀ i (subst (λ (w : ℕ). w < 2 ^ 64) word small));
     }
-
-pub turned_end : {current₀ next₀ current next : List ℕ} {any : Bool} {i n : ℕ}
-    → Turned current₀ next₀ current next any i → i ≤ n → n ≤ i → Turned current₀ next₀ current next any n
-turned_end {current₀} {next₀} {current} {next} {any} {i} {n} r l m =
-    let same : i ≡ n = omega arith in
-    subst (Turned current₀ next₀ current next any) same r
