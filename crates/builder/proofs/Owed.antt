@@ -98,6 +98,11 @@ module _ {g : Table} {c c' : Lent} where
           ∙ ap (λ (b : Bool). cond b (cond (over_room (tree g) c) (refusal room_small 0) success) (refusal number place)) (ne_eqb number 0 n)
       by false e w n = refusal_by g c e refl refl ∙ ap (λ (b : Bool). cond b (table_refusal g) (refusal columns_differ 0)) (sym e) ∙ w
 
+-- What is no refusal is fine.
+pub fine_of : (r : Checked) → ((number place : ℕ) → r ≡ Checks.Refused number place → ⊥) → r ≡ Checks.Fine
+fine_of Checks.Fine d = refl
+fine_of (Checks.Refused number place) d = absurd (d number place refl)
+
 pub passed : (g : Table) (c : Lent) {r : Checked} → Scanned r (before_room g c) → r ≡ Checks.Fine → (even c ≡ true) × (table_refusal g ≡ success)
 passed g c s f = by (even c) refl (sym s.is ∙ ap refusal_of f)
   where

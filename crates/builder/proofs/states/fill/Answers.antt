@@ -1,5 +1,8 @@
 -- `fill` meets its contract: what a turn comes to is said by the laws of Walking and Turning.
 use Rattle.std.proofs.Common.{arith}
+use Rattle.theory.specs.Table.{table}
+use Rattle.theory.specs.Arcs.{arc_columns}
+use Rattle.theory.specs.Build.{lent}
 use Rattle.builder.proofs.Lengths.{lengths_none, lengths_rows, lengths_automaton}
 use Rattle.builder.proofs.Told.{next_as, turn_as, met_as, over_of, done_of, no_room_of}
 use Rattle.builder.proofs.Walking.{found_ready, found_meets, member_full, member_next, member_less, member_end, member_short}
@@ -40,13 +43,17 @@ returns-in_default-meet c =
 
 pub loop-row-smaller-in-Found : goal.loop-row-smaller-in-Found
 loop-row-smaller-in-Found c =
-    let less = member_less c.loop-row.invariant.0 c.step.auto.kind c.in-Found.ensures _ c.in-On.ensures in omega arith
+    let n = c.meet.new in
+    let met = lent (table c.step.new.kind c.step.new.left c.step.new.right) n.expression n.accepting (arc_columns n.from n.letter n.to) in
+    let less = member_less c.loop-row.invariant.0 c.step.auto.kind c.in-Found.ensures met c.in-On.ensures in omega arith
 
 pub loop-row-preserved-in-Found : goal.loop-row-preserved-in-Found
 loop-row-preserved-in-Found c =
     let kept = c.meet.auto in
+    let n = c.meet.new in
+    let met = lent (table c.step.new.kind c.step.new.left c.step.new.right) n.expression n.accepting (arc_columns n.from n.letter n.to) in
     (
-      member_next c.loop-row.invariant.0 c.step.auto.kind c.in-Found.ensures _ c.in-On.ensures,
+      member_next c.loop-row.invariant.0 c.step.auto.kind c.in-Found.ensures met c.in-On.ensures,
       lengths_automaton (lengths_rows c.loop-row.invariant.1 c.step.auto.kind c.step.auto.left c.step.auto.right) kept.expression
           kept.accepting (record { from = kept.from; letter = kept.letter; to = kept.to }),
     )
