@@ -9,7 +9,6 @@ use borrow.Author.Tests.{ne_eqb}
 use Rattle.theory.specs.Refusal.{Refusal, refusal, success, columns_differ, room_small}
 use Rattle.theory.specs.Column.{zeros}
 use Rattle.theory.specs.Table.{Table, tree, table_refusal}
-use Rattle.theory.specs.Automaton.{states, arcs, expressions}
 use Rattle.theory.specs.Build as Build
 use Rattle.theory.specs.Build.{Lent, Cleared, even, over_room, build_refusal, expression_room, state_room, arc_room, OverRoom, of_expressions, of_states, of_arcs}
 use Rattle.theory.specs.Limit.{most_expressions, most_states, most_arcs}

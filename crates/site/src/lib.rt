@@ -1,5 +1,7 @@
 // A text to its automaton and to the verdicts on records, as the programs make them.
 
+#![tactic(auto)]
+
 pub mod totals;
 
 ghost use Rattle.std.specs.Prelude.{◌≡◌, length, get_or, eqb};
@@ -27,7 +29,7 @@ pub const STATES: usize = 512;
 pub const ARCS: usize = 4096;
 
 // What a text comes to. Letters are counted with repeats.
-#[derive(Drop)]
+#[derive(Clone, Copy)]
 pub enum Site {
     Refused {
         number: u8,

@@ -6,7 +6,7 @@ ghost use Rattle.site.specs.Totals.{values, of_one, with_report, Fits, HasEntry}
 
 use crate::Site;
 
-#[derive(Drop)]
+#[derive(Clone, Copy)]
 pub struct Totals {
     pub built: u64,
     pub states: u64,

@@ -1,12 +1,10 @@
 -- `build` meets its contract, on its three ways out: a refusal of 1 to 8, the automaton, refusal 9.
-use Rattle.std.proofs.Common.{ap}
-use Rattle.theory.specs.Refusal.{Refusal}
 use Rattle.theory.specs.Table.{table}
 use Rattle.theory.specs.Arcs.{arc_columns, even_arcs}
 use Rattle.theory.specs.Build.{lent, even}
 use Rattle.builder.proofs.Lengths.{lengths_after, cleared_lengths, cleared_as}
 use Rattle.builder.proofs.Told.{no_room_of, reaches_as}
-use Rattle.builder.proofs.Owed.{cleared_blank, fine_of, passed, built_refused, built_short, built_whole}
+use Rattle.builder.proofs.Owed.{fine_of, passed, built_refused, built_short, built_whole}
 use Rattle.builder.proofs.build.Goals as goal
 
 pub returns-in-Refused : goal.returns-in-Refused

@@ -9,8 +9,7 @@ loop-i-init c = (omega arith, marked_none _ _)
 
 pub loop-i-preserved : goal.loop-i-preserved
 loop-i-preserved c =
-    let m = c.loop-i.invariant.1 in
-    (
+    let m = c.loop-i.invariant.1 in (
       omega arith,
       elim c.if-kind-i-eq-LETTER.branch [
         | then-kind-i-eq-LETTER+then-l-lt256 w ↦ marked_as w.marks-is (marked_letter m w.if-kind-i-eq-LETTER.true w.if-l-lt256.true)

@@ -6,7 +6,7 @@ use Rattle.theory.specs.Build.{lent}
 use Rattle.builder.proofs.Lengths.{lengths_none, lengths_rows, lengths_automaton}
 use Rattle.builder.proofs.Told.{next_as, turn_as, met_as, over_of, done_of, no_room_of}
 use Rattle.builder.proofs.Walking.{found_ready, found_meets, member_full, member_next, member_less, member_end, member_short}
-use Rattle.builder.proofs.Turning.{started, next_letter, none_met, all_met, turned, turned_less}
+use Rattle.builder.proofs.Turning.{started, next_letter, none_met, all_met, turned}
 use Rattle.builder.proofs.states.fill.Goals as goal
 
 -- ---- Before the loop
@@ -51,8 +51,7 @@ pub loop-row-preserved-in-Found : goal.loop-row-preserved-in-Found
 loop-row-preserved-in-Found c =
     let kept = c.meet.auto in
     let n = c.meet.new in
-    let met = lent (table c.step.new.kind c.step.new.left c.step.new.right) n.expression n.accepting (arc_columns n.from n.letter n.to) in
-    (
+    let met = lent (table c.step.new.kind c.step.new.left c.step.new.right) n.expression n.accepting (arc_columns n.from n.letter n.to) in (
       member_next c.loop-row.invariant.0 c.step.auto.kind c.in-Found.ensures met c.in-On.ensures,
       lengths_automaton (lengths_rows c.loop-row.invariant.1 c.step.auto.kind c.step.auto.left c.step.auto.right) kept.expression
           kept.accepting (record { from = kept.from; letter = kept.letter; to = kept.to }),
@@ -67,12 +66,11 @@ returns-in_default-turn c =
     record { goes = (all_met c.args.letters c.requires.knows m t.0 t.1, m.roomy) }
 
 pub loop-row-preserved : goal.loop-row-preserved
-loop-row-preserved c =
-    (
-      turned c.args.letters c.requires.knows c.in-Letter.ensures
-          (member_end c.loop-row.invariant.0 c.step.auto.kind c.in-End.ensures) c.in-To.ensures,
-      lengths_rows c.loop-row.invariant.1 c.step.auto.kind c.step.auto.left c.step.auto.right,
-    )
+loop-row-preserved c = (
+  turned c.args.letters c.requires.knows c.in-Letter.ensures
+      (member_end c.loop-row.invariant.0 c.step.auto.kind c.in-End.ensures) c.in-To.ensures,
+  lengths_rows c.loop-row.invariant.1 c.step.auto.kind c.step.auto.left c.step.auto.right,
+)
 
 pub returns-in-NoRoom : goal.returns-in-NoRoom
 returns-in-NoRoom c = record { goes = member_short c.loop-row.invariant.0 c.in-NoRoom.ensures.outcome }

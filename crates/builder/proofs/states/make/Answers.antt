@@ -1,8 +1,7 @@
 -- `make` meets its contract: state 0 stands and the rest follows from it, or a need exceeds its room.
 use Rattle.std.proofs.Common.{sym, subst, arith}
-use Rattle.theory.specs.Table.{table}
 use Rattle.theory.proofs.WellFormed.{well_formed}
-use Rattle.builder.specs.Progress.{Knows, Reaches}
+use Rattle.builder.specs.Progress.{Knows}
 use Rattle.builder.proofs.Lengths.{same_arcs}
 use Rattle.builder.proofs.Starting.{standing_root, standing_started}
 use Rattle.builder.proofs.Using.{gathered_knows}
