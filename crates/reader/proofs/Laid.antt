@@ -7,12 +7,8 @@ use mathlib.Core.List.{List, [], ◌∷◌, ◌++◌, map, map-append}
 use lib.ListN.{length, set, drop, length-map, length-replicate}
 use lib.Seq.{sets, sets-eq}
 use Rattle.theory.specs.Column.{zeros, filled}
-use Rattle.theory.specs.Table.{Table, table, Row}
+use Rattle.theory.specs.Table.{Table, Row}
 use Rattle.reader.specs.Found.{laid}
-
--- The three columns as a call leaves them.
-abbrev pub left_by_call : List ℕ × (List ℕ × (List ℕ × Unit {0})) → Table
-left_by_call last = table last.0 last.1.0 last.1.1.0
 
 sets_append : (l : List ℕ) (i : ℕ) (xs ys : List ℕ) → sets l i (xs ++ ys) ≡ sets (sets l i xs) (i + length xs) ys
 sets_append l i [] ys = rw add-zero

@@ -1,13 +1,9 @@
 -- What a cursor's step says of the text: the end, or the byte that stands there.
-use Prim.Native.Nat.{ℕ, ◌+◌, ◌-◌, ◌≤◌, ◌<◌}
+use Prim.Native.Nat.{ℕ, ◌-◌}
 use native.Mathlib.Omega.{arith}
 use mathlib.Core.Path.{◌≡◌, refl, ap, ◌∙◌}
-use mathlib.Core.Bool.{Bool, true, false}
 use mathlib.Core.Logic.{inr}
 use mathlib.Core.List.{List, [], ◌∷◌}
-use lib.ListN.{length, get_or}
-use lib.Dec.{ltb}
-use borrow.Author.Tests.{ltb-true, ltb-false}
 use Rattle.columns.specs.declared.Cursor.{Cursor}
 use Rattle.columns.proofs.ByteAt.{ByteAt}
 use Rattle.theory.specs.Expression.{Sign, union, concatenation, shuffle}

@@ -106,10 +106,6 @@ module _ (room : ℕ) (text : Text) (t : Table) where
     whole_ended l =
         (found.expression, found.reads ∙ at_end room text cursor.at made found.stand l ∙ found.whole, found.counted, found.laid_out)
 
-  pub whole_refused : {number place : ℕ} (t' : Table) (r : Found) → r ≡ Refused number place → Begun room text t r t' → WholeRead room text t r t'
-  whole_refused t' r q h =
-      subst (λ (r' : Found). WholeRead room text t r' t') (sym q) (subst (λ (r' : Found). Begun room text t r' t') q h)
-
 -- ---- The limits
 
 yes_no : true ≡ false → ⊥

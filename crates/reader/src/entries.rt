@@ -148,7 +148,7 @@ pub fn stars(text: &[u8], at: Point, kind: &mut [u8], left: &mut [u16], right: &
     let mut cursor = at.cursor;
     let mut made = at.made;
     loop {
-        let Step::Byte(byte, after) = cursor.step(text) else {
+        let Step::Byte(byte, after) = (Cursor { at: cursor.at }).step(text) else {
             return Found::Value(made, cursor);
         };
         if byte != b'*' {

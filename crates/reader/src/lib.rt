@@ -1,5 +1,7 @@
 // The reader: turns a written expression into an expression table.
 
+#![tactic(auto)]
+
 mod entries;
 mod rules;
 
