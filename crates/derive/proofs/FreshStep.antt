@@ -14,10 +14,10 @@ use Rattle.derive.specs.declared.walk.Place.{Place}
 use Rattle.derive.specs.declared.walk.Place.TheVariants.{Behind}
 use Rattle.derive.specs.declared.walk.Stepped.{Stepped}
 use Rattle.derive.specs.declared.walk.Stepped.TheVariants.{Found, End, NoRoom}
-use Rattle.derive.specs.Rows.{Fitted, Grown, Came, Held}
+use Rattle.derive.specs.Rows.{Grown, Came, Held}
 use Rattle.derive.specs.Sides.{WithinRow, side_list}
-use Rattle.derive.specs.Walk.{first_of, to_come, InList, SideAmong, PartOf, Gives, Steps}
-use Rattle.derive.proofs.Coming.{came_none, came_then, short_then}
+use Rattle.derive.specs.Walk.{first_of, to_come, InList, PartOf, Gives, Steps}
+use Rattle.derive.proofs.Coming.{came_then, short_then}
 use Rattle.derive.proofs.Growing.{grown_trans}
 use Rattle.derive.proofs.Listing.{first_none, first_some, first_member, beyond_keep, beyond_pass}
 use Rattle.derive.proofs.Siding.{side_no_repeats}
@@ -31,11 +31,6 @@ pub record PassedOver (t : Table) (n room a : ℕ) (x y : Side) (p : Place) (t' 
   pub came : Came t n room (PartOf (side_list a t y)) t' n'
   pub place : InList t' n' p' (side_list a t y)
   pub rest : beyond same (side_list a t x) (to_come t' p' (side_list a t y)) ≡ beyond same (side_list a t x) (to_come t p (side_list a t y))
-
-pub passed_none : {t : Table} {n room : ℕ} (a : ℕ) (x y : Side) (p : Place) → Fitted t n room → WithinRow n n x × WithinRow n n y
-    → InList t n p (side_list a t y) → PassedOver t n room a x y p t n p
-passed_none {t} a x y p f w i =
-    record { left_within = w.0; right_within = w.1; came = came_none (PartOf (side_list a t y)) f; place = i; rest = refl }
 
 module _ {t : Table} {n room a : ℕ} {x y : Side} {p : Place} {t' : Table} {n' : ℕ} {p' : Place} (k : PassedOver t n room a x y p t' n' p') where
   abbrev xs : List Expression
@@ -70,9 +65,6 @@ module _ {t : Table} {n room a : ℕ} {x y : Side} {p : Place} {t' : Table} {n' 
 
       rest_then : to_come t'' (Behind row) ys ≡ next.0
       rest_then = next_to_come t' t'' p' ys row next.0 (side_no_repeats a t y) next.1
-
-      pub turn_asks : SideAmong t'' x row
-      turn_asks = record { count = u; rows = found.came.grown.rows; side_in = grown_side grown x k.left_within; member_in = found.there }
 
       -- A member that x does not have is the next.
       pub turn_found : (Memᴰ (tree_at t'' row) (side_list a t'' x) → ⊥) → Gives t n room ys (beyond same xs (to_come t p ys)) (Found row u) t''

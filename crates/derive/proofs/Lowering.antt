@@ -5,7 +5,7 @@ use mathlib.Core.Path.{◌≡◌, refl, sym, ap, ◌∙◌}
 use mathlib.Core.Bool.{Bool, true, false, not, ◌&&◌}
 use lib.Dec.{eqb}
 use borrow.Author.Tests.{eqb-true, eqb-false, eq-eqb, ne_eqb}
-use Rattle.theory.specs.Expression.{Expression, same, ε, pair}
+use Rattle.theory.specs.Expression.{Expression, same, ε}
 use Rattle.theory.specs.Table.{Table, Row, row, tree_at, kind_of_sign}
 use Rattle.theory.proofs.Rooted.{rooted, sign_rooted, pair_rooted}
 use Rattle.derive.specs.declared.sides.Join.{Join}

@@ -30,12 +30,6 @@ use Rattle.derive.proofs.Joining.{beside_tells}
 use Rattle.derive.proofs.Lowering.{Lowers, lowers}
 use Rattle.derive.proofs.Siding.{derivative_sides, left_side_within, right_side_within}
 
-pub told_yes : {b : Bool} (P : Type 0) → b ≡ true → Tells b P → P
-told_yes P e h = subst (λ b. Tells b P) e h
-
-pub told_no : {b : Bool} (P : Type 0) → b ≡ false → Tells b P → P → ⊥
-told_no P e h = subst (λ b. Tells b P) e h
-
 -- ---- A letter's row
 
 -- Row i, read as w, is a letter.
@@ -139,9 +133,6 @@ module _ {t : Table} {n i : ℕ} {x y : Side} (k : TwoSides t n i x y) where
     right_tells z false d m = λ v. ⊎_elim d m (sides_have z v)
 
 -- ---- A side
-
-pub nothing_tells : (a : ℕ) (t : Table) {side : Side} {z : Expression} → side ≡ Nothing → Memᴰ z (side_list a t side) → ⊥
-nothing_tells a t {z = z} e m = Memᴰ.not-nil (subst (λ s. Memᴰ z (side_list a t s)) e m)
 
 -- The side is that of a child and a join, and row p is lowered as the code has done it.
 pub record Lower (t : Table) (n : ℕ) (side : Side) (child other : ℕ) (join : Join) (p : ℕ) (r : Lowered) : Type 0 where

@@ -1,11 +1,10 @@
 -- A step along a side's list, from a step along its child's and the join of the member found.
 use Prim.Native.Nat.{ℕ, ◌<◌}
-use native.Mathlib.Nat.{lt_of_lt_of_le}
 use mathlib.Core.Path.{◌≡◌, refl, sym, ap, ◌∙◌, subst}
-use mathlib.Core.Option.{none, some}
+use mathlib.Core.Option.{some}
 use mathlib.Core.Logic.{◌⊎◌, inl, inr, ⊎_elim}
 use mathlib.Core.List.Memᴰ
-use mathlib.Core.List.{List, [], map, Memᴰ}
+use mathlib.Core.List.{List, map, Memᴰ}
 use Rattle.theory.specs.Expression.{Expression}
 use Rattle.theory.specs.Derivative.{derivative}
 use Rattle.theory.specs.Table.{Table, trees, tree_at}
@@ -15,17 +14,17 @@ use Rattle.derive.specs.declared.rows.Interned.{Interned}
 use Rattle.derive.specs.declared.rows.Interned.TheVariants.{At, Full}
 use Rattle.derive.specs.declared.sides.Join.{Join}
 use Rattle.derive.specs.declared.sides.Side.{Side}
-use Rattle.derive.specs.declared.sides.Side.TheVariants.{Nothing, Of}
+use Rattle.derive.specs.declared.sides.Side.TheVariants.{Of}
 use Rattle.derive.specs.declared.sides.Lowered.{Lowered}
 use Rattle.derive.specs.declared.sides.Lowered.TheVariants.{Member, Outside}
 use Rattle.derive.specs.declared.walk.Place.{Place}
 use Rattle.derive.specs.declared.walk.Place.TheVariants.{Start, Behind}
 use Rattle.derive.specs.declared.walk.Stepped.{Stepped}
 use Rattle.derive.specs.declared.walk.Stepped.TheVariants.{Found, End, NoRoom}
-use Rattle.derive.specs.Rows.{Rows, Fitted, Held, Answered, Interns}
+use Rattle.derive.specs.Rows.{Rows, Held, Answered, Interns}
 use Rattle.derive.specs.Sides.{WithinRow, beside, side_list, lowered}
 use Rattle.derive.specs.Walk.{behind, first_of, to_come, InList, behind_lowered, lowered_place, PartOf, reached, Gives, Steps}
-use Rattle.derive.proofs.Coming.{came_none, came_for, short_for, answered_then}
+use Rattle.derive.proofs.Coming.{came_for, short_for, answered_then}
 use Rattle.derive.proofs.Growing.{grown_tree}
 use Rattle.derive.proofs.Joining.{beside_tells, beside_parts}
 use Rattle.derive.proofs.Listing.{first_none, first_member, first_map, behind_map}
@@ -108,9 +107,6 @@ module _ {t : Table} {n a : ℕ} {side : Side} {child other : ℕ} {join : Join}
       pub found : Held t n room (PartOf ms) (λ z. first_of (to_come t inner ms) ≡ some z) row t₁ u
       found = (gives_as es g).outcome
 
-      pub lift_there : (other < u) × (row < u)
-      lift_there = (lt_of_lt_of_le w'.1 found.came.grown.more, found.there)
-
       abbrev lifted : Expression
       lifted = beside join (tree_at t₁ other) (tree_at t₁ row)
 
@@ -152,20 +148,3 @@ module _ {t : Table} {n a : ℕ} {side : Side} {child other : ℕ} {join : Join}
               };
         }
     side_ended NoRoom d g = record { outcome = short_for needed_side g.outcome }
-
--- A side that is nothing has no member.
-pub side_nothing : {t : Table} {n room : ℕ} → Fitted t n room → (a : ℕ) (place : Place) {side : Side} → side ≡ Nothing
-    → Steps t n room (side_list a t side) place (End n) t
-unfolding behind
-side_nothing {t} f a place {side} e =
-    record {
-      outcome =
-          record {
-            came = came_none (PartOf (side_list a t side)) f;
-            nothing_left = ap (λ s. first_of (to_come t place (side_list a t s))) e ∙ none_come place;
-          };
-    }
-  where
-    none_come : (p : Place) → first_of (to_come t p []) ≡ none
-    none_come Start = refl
-    none_come (Behind p) = refl

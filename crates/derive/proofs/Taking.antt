@@ -1,5 +1,5 @@
 -- A tree taken over with all its parts: a leaf's row, and the row of a star or of a sign after what its children brought.
-use Prim.Native.Nat.{ℕ, ◌≤◌, ◌<◌}
+use Prim.Native.Nat.{ℕ, ◌<◌}
 use native.Mathlib.Nat.{lt_of_lt_of_le}
 use native.Mathlib.Omega.{arith}
 use mathlib.Core.Path.{◌≡◌, refl, sym, ap, ap₂, ◌∙◌, subst}
@@ -7,7 +7,6 @@ use mathlib.Core.Logic.{inr}
 use mathlib.Core.List.Memᴰ
 use mathlib.Core.List.{Memᴰ}
 use Rattle.theory.specs.Kind
-use Rattle.theory.specs.Limit.{most_expressions}
 use Rattle.theory.specs.Expression.{Expression, pair, star, parts}
 use Rattle.theory.specs.Distinct.{Within}
 use Rattle.theory.specs.Table.{Table, Row, entry, Sound, of_sign, kind_of_sign, trees, tree_at, row_tree}
@@ -41,10 +40,6 @@ took_not q h = (answered_as q h).answer
 pub full_of : (r : Interned) → ((i n : ℕ) → r ≡ At i n → ⊥) → r ≡ Full
 full_of (At i n) d = absurd (d i n refl)
 full_of Full d = refl
-
--- A row number fits 16 bits.
-pub named_small : {t t' : Table} {n room : ℕ} {e : Expression} {i n' : ℕ} → Fitted t n room → Took t n room e i t' n' → i ≤ most_expressions
-named_small f k = omega (arith, k.there, k.came.fits, f.small)
 
 -- ---- A tree after its parts
 
