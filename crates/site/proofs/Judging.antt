@@ -9,7 +9,7 @@ use Rattle.theory.specs.Expression.{Expression}
 use Rattle.theory.specs.Limit.{most_states}
 use Rattle.theory.specs.Refusal.{Refusal}
 use Rattle.theory.specs.Language.{Word}
-use Rattle.theory.specs.Automaton.{states, arcs}
+use Rattle.theory.specs.Automaton.{states}
 use Rattle.theory.specs.Table.{columns}
 use Rattle.theory.specs.Grammar.{Text, Reading, read, refused, rows, written, Writable}
 use Rattle.theory.specs.Read.{entered}

@@ -7,9 +7,8 @@ use mathlib.Core.List.{List, map}
 use lib.ListN.{length, take, length-map}
 use borrow.Author.Tests.{eq-eqb, ne_eqb}
 use native.Mathlib.Decide.{ℕ_discrete}
-use Rattle.theory.specs.Kind
 use Rattle.theory.specs.Expression.{Expression, entries, letters}
-use Rattle.theory.specs.Refusal.{Refusal, refusal, success}
+use Rattle.theory.specs.Refusal.{Refusal, success}
 use Rattle.theory.specs.Column.{filled}
 use Rattle.theory.specs.Automaton.{states, accepting, expressions, arcs}
 use Rattle.theory.specs.Arcs.{filled_arcs}

@@ -5,7 +5,6 @@ use mathlib.Core.Path.{◌≡◌, refl, sym, ap, ◌∙◌, subst}
 use Rattle.theory.specs.Expression.{Expression}
 use Rattle.theory.specs.Refusal.{Refusal}
 use Rattle.theory.specs.Language.{Word}
-use Rattle.theory.specs.Automaton.{states}
 use Rattle.theory.specs.Grammar.{Text, Reading, read, refused}
 use Rattle.theory.specs.Record.{Handed, handed, Work, cleared, verdict, live, matcher_refusal}
 use Rattle.theory.specs.Judge.{Judgement, Judged, judgement}

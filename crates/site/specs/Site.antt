@@ -3,7 +3,7 @@ use Rattle.std.specs.Prelude.{ℕ, ◌≡◌, true, false, cond, ◌&&◌, List,
 use Rattle.theory.specs.Expression.{Expression}
 use Rattle.theory.specs.Refusal.{Refusal, refusal, success, columns_differ, room_small}
 use Rattle.theory.specs.Column.{zeros, filled}
-use Rattle.theory.specs.Automaton.{states, accepting, expressions, arcs}
+use Rattle.theory.specs.Automaton.{accepting, arcs}
 use Rattle.theory.specs.Arcs.{ArcColumns, arc_columns, even_arcs, no_arcs, filled_arcs}
 use Rattle.theory.specs.Table.{Table, table}
 use Rattle.theory.specs.Grammar.{Text, Reading, read, refused}
