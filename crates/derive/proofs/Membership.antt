@@ -30,6 +30,13 @@ use Rattle.derive.proofs.Joining.{beside_tells}
 use Rattle.derive.proofs.Lowering.{Lowers, lowers}
 use Rattle.derive.proofs.Siding.{derivative_sides, left_side_within, right_side_within}
 
+-- What a test tells, by its outcome.
+pub told_yes : {b : Bool} (P : Type 0) → b ≡ true → Tells b P → P
+told_yes P e h = subst (λ b. Tells b P) e h
+
+pub told_no : {b : Bool} (P : Type 0) → b ≡ false → Tells b P → P → ⊥
+told_no P e h = subst (λ b. Tells b P) e h
+
 -- ---- A letter's row
 
 -- Row i, read as w, is a letter.

@@ -72,6 +72,16 @@ module _ (t : Table) (i : ℕ) {w : Row} (e : w ≡ row t i) where
       → pick b (Of w.right 0 Followed) Nothing ≡ right_side t i
   right_after b q h = ap (λ (c : Bool). pick c (Of w.right 0 Followed) Nothing) q ∙ right_as (sign_kind concatenation) h
 
+-- A concatenation's right side, where the left part has the empty word and where it has not: `right_side` names both in its attribute.
+module _ (t : Table) (i : ℕ) where
+  pub right_follows : (row t i).kind ≡ Kind.concatenation → empty_word (tree_at t (row t i).left) ≡ true → right_side t i ≡ Of (row t i).right 0 Followed
+  unfolding kind_of_sign
+  right_follows k e = sym (right_after t i refl true (sym e) k)
+
+  pub right_lacks : (row t i).kind ≡ Kind.concatenation → empty_word (tree_at t (row t i).left) ≡ false → right_side t i ≡ Nothing
+  unfolding kind_of_sign
+  right_lacks k e = sym (right_after t i refl false (sym e) k)
+
 -- ---- The lists
 
 -- A side without a join is the child's list.

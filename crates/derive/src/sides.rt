@@ -70,6 +70,7 @@ pub fn left_side(kind: &[u8], left: &[u16], right: &[u16], row: usize) -> Side
     }
 }
 
+#[tactic(auto, using(crate::proofs::Siding::right_follows, crate::proofs::Siding::right_lacks))]
 pub fn right_side(kind: &[u8], left: &[u16], right: &[u16], row: usize) -> Side
     requires { SoundTo (table kind.now left.now right.now) row }
     ensures { result ≡ right_side (table kind.now left.now right.now) row }

@@ -1,9 +1,9 @@
 -- `right_side` gives the right side of a row, by the row's kind and the left part's answer for the empty word.
-use Rattle.std.proofs.Common.{true, false, sym, ◌∙◌, arith}
+use Rattle.std.proofs.Common.{arith}
 use Rattle.theory.specs.Expression.{union, concatenation, shuffle}
 use Rattle.theory.specs.Table.{sign_kind, kind_of_sign}
 use Rattle.theory.proofs.Meaning.{no_sign}
-use Rattle.derive.proofs.Siding.{right_as, right_none, right_after, left_child}
+use Rattle.derive.proofs.Siding.{right_as, right_none, left_child}
 use Rattle.derive.proofs.sides.right_side.Goals as goal
 
 pub empty_word-requires : goal.empty_word-requires
@@ -13,16 +13,6 @@ empty_word-requires c = left_child _ _ c.row_at-w.ensures c.requires concatenati
 pub returns-in-3 : goal.returns-in-3
 unfolding kind_of_sign
 returns-in-3 c = right_as _ _ c.row_at-w.ensures (sign_kind union) c.in-3.is
-
-pub returns-then-empty_word : goal.returns-then-empty_word
-unfolding kind_of_sign
-returns-then-empty_word c =
-    right_after _ _ c.row_at-w.ensures true (sym c.if-empty_word.true ∙ c.empty_word.ensures) c.in-4.is
-
-pub returns-else-empty_word : goal.returns-else-empty_word
-unfolding kind_of_sign
-returns-else-empty_word c =
-    right_after _ _ c.row_at-w.ensures false (sym c.if-empty_word.false ∙ c.empty_word.ensures) c.in-4.is
 
 pub returns-in-5 : goal.returns-in-5
 unfolding kind_of_sign

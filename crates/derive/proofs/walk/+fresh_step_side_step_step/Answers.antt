@@ -4,7 +4,7 @@ use Rattle.std.proofs.Common.{ap, arith}
 use Rattle.derive.proofs.Coming.{fitted_then}
 use Rattle.derive.proofs.FreshStep.{turn_place, turn_side, turn_found, turn_passed, turn_less, turn_ended}
 use Rattle.derive.proofs.Growing.{rows_sound_to}
-use Rattle.derive.proofs.Membership.{weight, two_sides, left_within, right_within, left_less, right_less}
+use Rattle.derive.proofs.Membership.{weight, told_yes, told_no, two_sides, left_within, right_within, left_less, right_less}
 use Rattle.derive.proofs.RowStep.{letter_steps, place_among, left_place, right_place, step_left, step_right, ended, ended_sides, step_on}
 use Rattle.derive.proofs.SideStep.{inner_told, child_within, inner_in, side_reached, side_ended}
 use Rattle.derive.proofs.Stepping.{place_within}
@@ -19,14 +19,16 @@ fresh_step-side_step-requires t c =
 
 pub fresh_step-returns-then-not-side_has : goal.fresh_step-returns-then-not-side_has
 fresh_step-returns-then-not-side_has t c =
-    turn_found c.loop-row.invariant c.side_step.ensures c.in-Found.is c.if-not-side_has.ensures
+    turn_found c.loop-row.invariant c.side_step.ensures c.in-Found.is
+    (told_no _ c.if-not-side_has.true c.side_has.ensures)
 
 pub fresh_step-loop-row-smaller : goal.fresh_step-loop-row-smaller
 fresh_step-loop-row-smaller t c = turn_less c.loop-row.invariant c.side_step.ensures c.in-Found.is
 
 pub fresh_step-loop-row-preserved : goal.fresh_step-loop-row-preserved
 fresh_step-loop-row-preserved t c =
-    turn_passed c.loop-row.invariant c.side_step.ensures c.in-Found.is c.if-not-side_has.ensures
+    turn_passed c.loop-row.invariant c.side_step.ensures c.in-Found.is
+    (told_yes _ c.if-not-side_has.false c.side_has.ensures)
 
 pub fresh_step-returns-in_default : goal.fresh_step-returns-in_default
 fresh_step-returns-in_default t c = turn_ended c.loop-row.invariant c.side_step.ensures c.in_default.not-Found
