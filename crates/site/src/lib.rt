@@ -112,6 +112,7 @@ fn clear(accepting: &mut [u8], from: &mut [u16], letter: &mut [u8], to: &mut [u1
 }
 
 // 2026-01: the entries that are letters.
+#[tactic(auto, using(crate::proofs::Counting::letter_more, crate::proofs::Counting::other_more))]
 fn letters(kind: &[u8]) -> usize
     ensures { result ≡ count_below (length kind.now) (λ i. eqb (get_or kind.now i 0) Kind.letter) }
 {
