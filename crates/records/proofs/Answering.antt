@@ -1,7 +1,7 @@
 -- The answer to a line: nothing, 16, or the line of the verdict that the expression's own automaton gives.
 use Prim.Native.Nat.{ℕ, ◌+◌, ◌≤◌}
 use native.Mathlib.Omega.{arith}
-use mathlib.Core.Path.{◌≡◌, refl, sym, ap, subst}
+use mathlib.Core.Path.{◌≡◌, sym, ap, subst}
 use mathlib.Core.List.{List}
 use lib.ListN.{take}
 use Rattle.theory.specs.Refusal.{refusal, record_long}
