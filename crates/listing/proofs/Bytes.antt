@@ -1,9 +1,7 @@
 -- How long the lines of a listing are.
-use Prim.Native.Nat.{ℕ, zero, suc, ◌+◌, ◌*◌, ◌≤◌, ◌<◌}
+use Prim.Native.Nat.{ℕ, ◌≤◌, ◌<◌}
 use native.Mathlib.Omega.{arith}
-use mathlib.Core.Path.{◌≡◌, ap}
-use mathlib.Core.Bool.{Bool, true, false, cond}
-use mathlib.Core.List.{List, [], ◌∷◌, ◌++◌}
+use mathlib.Core.List.{[], ◌∷◌}
 use lib.ListN.{length, length-append}
 use Rattle.theory.specs.Lines.{decimal, number_and, arc_line}
 use Rattle.lines.proofs.Decimal.{decimal_short}

@@ -1,19 +1,16 @@
 -- The lines of the used arcs and of the states, in columns that hold the automaton of an expression, are its listing; each more of them comes
 -- after those before it.
-use Prim.Native.Nat.{ℕ, zero, suc, ◌+◌, ◌*◌, ◌≤◌, ◌<◌}
+use Prim.Native.Nat.{ℕ, ◌+◌}
 use native.Mathlib.Nat.{zero-add}
 use native.Mathlib.Numerals.{add-one}
-use native.Mathlib.Omega.{arith}
-use mathlib.Core.Path.{◌≡◌, refl, sym, ap, ap₂, ◌∙◌, subst}
-use mathlib.Core.Bool.{Bool, true, false, cond}
+use mathlib.Core.Path.{◌≡◌, refl, ap, ap₂, ◌∙◌, subst}
 use mathlib.Core.List.{List, [], ◌∷◌, ◌++◌, flat_map, append-nil}
 use lib.ListN.{length, get_or}
-use lib.Dec.{eqb}
 use Rattle.theory.specs.Expression.{Expression}
 use Rattle.theory.specs.Column.{filled}
 use Rattle.theory.specs.Automaton.{Arc, states, accepting, arcs, ascending}
 use Rattle.theory.specs.Arcs.{ArcColumns, arc_at, first_arcs, filled_arcs}
-use Rattle.theory.specs.Lines.{arc_line, state_line, listing}
+use Rattle.theory.specs.Lines.{arc_line, listing}
 use Rattle.theory.proofs.Column.{getD_filled}
 use Rattle.theory.proofs.Filled.{filled_is}
 use Rattle.theory.proofs.Meetings.{ascending_more}

@@ -6,7 +6,7 @@ use mathlib.Core.List.{List, ◌++◌}
 use lib.ListN.{length, get_or, take}
 use Rattle.theory.specs.Limit.{most_states}
 use Rattle.theory.specs.Refusal.{Refusal}
-use Rattle.theory.specs.Automaton.{states, arcs}
+use Rattle.theory.specs.Automaton.{states}
 use Rattle.theory.specs.Arcs.{ArcColumns}
 use Rattle.theory.specs.Grammar.{Text, Reading}
 use Rattle.theory.specs.Lines.{listing, refusal_line}
