@@ -1,20 +1,17 @@
--- The two ways a call by way of the host goes: with too few numbers for the counts, and with enough of them.
+-- What a call by way of the host owes when there are enough numbers for the counts, and where a refusal can stand.
 use Prim.Native.Nat.{ℕ, ◌≤◌, ◌<◌}
 use native.Mathlib.Decide.{ℕ_discrete}
 use native.Mathlib.Omega.{arith}
-use mathlib.Core.Path.{◌≡◌, ap, subst}
+use mathlib.Core.Path.{◌≡◌, ap}
 use mathlib.Core.List.{List}
 use lib.ListN.{length}
 use Rattle.theory.specs.Limit.{most_entries}
-use Rattle.theory.specs.Refusal.{Refusal, refusal, counts_few}
-use Rattle.theory.specs.Column.{zeros, filled}
+use Rattle.theory.specs.Refusal.{Refusal}
+use Rattle.theory.specs.Column.{filled}
 use Rattle.theory.specs.Table.{Table}
 use Rattle.theory.specs.Grammar.{Text}
-use Rattle.theory.specs.Language.{Word}
 use Rattle.theory.specs.Read.{Entered, Read}
 use Rattle.theory.specs.Build.{Lent, Counts, counts, Built, build_refusal}
-use Rattle.theory.specs.Record.{Handed, Work}
-use Rattle.theory.specs.Judge.{Judged}
 use Rattle.theory.proofs.Answers.{counts_built, counts_refused}
 use Rattle.theory.proofs.Places.{reader_place, builder_place}
 use Rattle.reader.specs.declared.Reading.{Reading}
@@ -23,26 +20,17 @@ use Rattle.reader.specs.Answer.{answer as Entered-of}
 use Rattle.builder.specs.declared.Building.{Building}
 use Rattle.builder.specs.declared.Building.TheVariants as building
 use Rattle.builder.specs.Answer.{answer as CountsOf}
-use Rattle.matcher.specs.declared.Judgement.{Judgement}
-use Rattle.matcher.specs.Answer.{values}
 use Rattle.host.specs.Host.{packed, fewest_counts, Hosted}
 
 module _ {A : Type 0} {refusal_of : A → Refusal} {numbers : A → List ℕ} {Owes : A → Type 0} {Zero : Type 0} {counts : List ℕ} {r : ℕ}
     {counts' : List ℕ} where
-  pub hosted_few : length counts < fewest_counts → Zero → r ≡ packed (refusal counts_few 0) → counts' ≡ zeros (length counts)
-      → Hosted refusal_of numbers Owes Zero counts r counts'
-  hosted_few l z e k = record { few = λ m. (z, e, k); enough = λ m. absurd (omega arith) }
-
   pub hosted : fewest_counts ≤ length counts → (a : A) → Owes a → r ≡ packed (refusal_of a) → counts' ≡ filled (length counts) (numbers a)
       → Hosted refusal_of numbers Owes Zero counts r counts'
   hosted l a o e k = record { few = λ m. absurd (omega arith); enough = λ m. (a, o, e, k) }
 
--- ---- What the enums say, and where a refusal can stand
+-- ---- Where a refusal can stand
 
 module _ {text : Text} {t t' : Table} {x : Reading} (h : Read text t (Entered-of x) t') where
-  pub read_as : {y : Reading} → x ≡ y → Read text t (Entered-of y) t'
-  read_as e = subst (λ (y : Reading). Read text t (Entered-of y) t') e h
-
   pub reads_place : {n p : ℕ} → x ≡ reading.Refused n p → p < 4294967296
   reads_place e =
       let l = reader_place h.due in
@@ -56,14 +44,7 @@ counts_place g c = go (ℕ_discrete (build_refusal g c).number 0)
     go (no n) = let l = builder_place g c in omega (arith, ap (λ (a : Counts). a.refusal.place) (counts_refused g c n))
 
 module _ {g : Table} {c c' : Lent} {x : Building} (h : Built g c (CountsOf x) c') where
-  pub built_as : {y : Building} → x ≡ y → Built g c (CountsOf y) c'
-  built_as e = subst (λ (y : Building). Built g c (CountsOf y) c') e h
-
   pub builds_place : {n p : ℕ} → x ≡ building.Refused n p → p < 4294967296
   builds_place e =
       let l = counts_place g c in
       omega (arith, ap (λ (y : Building). (CountsOf y).refusal.place) e, ap (λ (a : Counts). a.refusal.place) h.answers)
-
-module _ {h : Handed} {w : Word} {k k' : Work} {x : Judgement} (j : Judged h w k (values x) k') where
-  pub judged_as : {y : Judgement} → x ≡ y → Judged h w k (values y) k'
-  judged_as e = subst (λ (y : Judgement). Judged h w k (values y) k') e j

@@ -45,13 +45,6 @@ module _ {counts₀ values counts : List ℕ} {end i : ℕ} (s : Stored counts�
       ∙ s.front
       ∙ take_all i goal (omega (arith, s.whole, filled_length (length counts₀) values s.fits))
 
--- The same counts, in whatever sums they come.
-pub one_told : (n : ℕ) → 4 ≤ n → {a b : ℕ} → a ≡ b → filled n (a ∷ []) ≡ filled n (b ∷ [])
-one_told n l e = ap (λ (x : ℕ). filled n (x ∷ [])) e
-
-pub three_told : (n : ℕ) → 4 ≤ n → {a b c a' b' c' : ℕ} → a ≡ a' → b ≡ b' → c ≡ c' → filled n (a ∷ b ∷ c ∷ []) ≡ filled n (a' ∷ b' ∷ c' ∷ [])
-three_told n l e f g = λ i. filled n (e i ∷ f i ∷ g i ∷ [])
-
 -- On a refusal the counts are zero, as many as there are.
 pub no_count : (n : ℕ) → 4 ≤ n → zeros n ≡ filled n (0 ∷ [])
 no_count n l = ap zeros (let k : n ≡ suc (n - 1) = omega arith in k)
