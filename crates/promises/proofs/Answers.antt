@@ -1,12 +1,9 @@
 -- The answers as enums: which cases never come, and that two that meet a contract are the same. Leans on `Once`, where it is said of their numbers.
 use Prim.Native.Nat.{ℕ, ◌<◌}
-use native.Mathlib.Decide.{ℕ_discrete}
 use native.Mathlib.Omega.{arith}
 use mathlib.Core.Path.{◌≡◌, refl, sym, ap, ap₂, ◌∙◌}
-use lib.ListN.{length}
 use Rattle.theory.specs.Refusal.{Refusal}
 use Rattle.theory.specs.Language.{Word}
-use Rattle.theory.specs.Automaton.{states}
 use Rattle.theory.specs.Table.{Table, tree, table_refusal}
 use Rattle.theory.specs.Grammar.{Text}
 use Rattle.theory.specs.Read.{Read, Entered, entered}

@@ -8,7 +8,6 @@ use Rattle.theory.specs.Refusal.{success}
 use Rattle.theory.specs.Expression.{entries, letters}
 use Rattle.theory.specs.Limit.{most_states, most_arcs}
 use Rattle.theory.specs.Table.{Table, size, tree}
-use Rattle.theory.specs.Automaton.{states, expressions, arcs}
 use Rattle.theory.specs.Build.{Lent, Counts, Built, OverRoom, of_expressions, of_states, of_arcs}
 use Rattle.theory.proofs.WellFormed.{tree_entries, tree_letters}
 use Rattle.theory.proofs.Bounds.{states_bound, expressions_bound, arcs_bound}

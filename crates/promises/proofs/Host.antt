@@ -13,7 +13,7 @@ use Rattle.theory.specs.Column.{zeros, filled}
 use Rattle.theory.specs.Table.{Table}
 use Rattle.theory.specs.Grammar.{Text}
 use Rattle.theory.specs.Build.{Lent}
-use Rattle.theory.specs.Record.{Handed, Work, cleared}
+use Rattle.theory.specs.Record.{Handed, Work}
 use Rattle.theory.proofs.Places as Places
 use Rattle.host.specs.Host.{packed, Hosted, HostReads, HostBuilds, HostJudges}
 use Rattle.host.proofs.Storing.{no_count, no_counts}

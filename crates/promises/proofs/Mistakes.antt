@@ -1,11 +1,9 @@
 -- 01's mistakes are none of ours. Computed: the table as it stands, the two words by the automaton, which `accepts_language` ties to 004's
 -- language.
 use native.Mathlib.Omega.{arith}
-use Prim.Native.Nat.{ℕ, ◌≤◌}
 use mathlib.Core.Path.{◌≡◌, refl, sym, ◌∙◌}
 use mathlib.Core.Bool.{true, false, false≢true}
 use mathlib.Core.List.Memᴰ
-use mathlib.Core.List.{Memᴰ}
 use mathlib.Core.Logic.{⊎_elim}
 use Rattle.theory.specs.Expression.{letters}
 use Rattle.theory.specs.Language.{Word, In}

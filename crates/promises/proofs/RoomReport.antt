@@ -10,7 +10,6 @@ use lib.ListN.{length}
 use lib.Dec.{ltb}
 use Rattle.theory.specs.Expression.{Expression}
 use Rattle.theory.specs.Refusal.{Refusal, refusal}
-use Rattle.theory.specs.Automaton.{states}
 use Rattle.theory.specs.Grammar.{Text, Reading, read, refused, written}
 use Rattle.theory.specs.Report as theory
 use Rattle.theory.specs.Report.{Report, withheld, needs, too_large, reading, of_reading, report, Totals, totals, is_built, is_small}
@@ -19,7 +18,7 @@ use Rattle.theory.proofs.RoomReport.{reports_more, few_last}
 use Rattle.site.specs.Site.{Shown, InRooms, entry_columns, answered, left_in, Made}
 use Rattle.site.specs.Totals.{of_one, with_report}
 use Rattle.site.proofs.Reporting.{due_is, is_due, made_reports}
-use Rattle.site.proofs.Totalling.{sums, totals_are_sums, totals_more, totals_fit as fit}
+use Rattle.site.proofs.Totalling.{totals_are_sums, totals_more, totals_fit as fit}
 use Rattle.promises.specs.Reader.{Written}
 use Rattle.promises.specs.Site.{SiteCause}
 use Rattle.promises.specs.RoomReport.{LinesReport, sum, if_built, if_small, FourSums, Run, none, one_more, TotalsOfTheList, TotalsFit, ReportPrints, joined, Sample}

@@ -8,7 +8,7 @@ use lib.ListN.{length}
 use Rattle.theory.specs.Refusal.{Refusal}
 use Rattle.theory.specs.Expression.{Expression}
 use Rattle.theory.specs.Language.{Word}
-use Rattle.theory.specs.Automaton.{states, arcs}
+use Rattle.theory.specs.Automaton.{arcs}
 use Rattle.theory.specs.Arcs.{EvenArcs}
 use Rattle.theory.specs.Grammar.{Text, Reading, read, refused}
 use Rattle.theory.specs.Read.{Due}

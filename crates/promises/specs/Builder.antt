@@ -2,7 +2,6 @@
 use Rattle.std.specs.Prelude.{◌<◌, ◌≡◌, ◌↔◌}
 use Rattle.theory.specs.Refusal.{Refusal, refusal, success}
 use Rattle.theory.specs.Table.{Table, tree}
-use Rattle.theory.specs.Automaton.{states, arcs, expressions}
 use Rattle.theory.specs.Build.{Lent, Counts, Cleared, EvenLent, OverRoom}
 use Rattle.promises.specs.Table.{WellFormed, TableCause}
 

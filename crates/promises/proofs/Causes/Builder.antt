@@ -6,7 +6,6 @@ use mathlib.Core.Path.{◌≡◌, refl, sym, ap, ◌∙◌}
 use mathlib.Core.Bool.{Bool, true, false, cond, false≢true}
 use Rattle.theory.specs.Refusal.{Refusal, refusal, success, or_else, room_small}
 use Rattle.theory.specs.Table.{Table, tree}
-use Rattle.theory.specs.Automaton.{states, arcs, expressions}
 use Rattle.theory.specs.Build.{Lent, Counts, counts, Built, even, over_room, build_refusal, EvenLent}
 use Rattle.theory.proofs.Tests.{false_of}
 use Rattle.theory.proofs.Answers.{counts_built, counts_refused}

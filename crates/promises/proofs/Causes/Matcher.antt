@@ -8,7 +8,7 @@ use mathlib.Core.Logic.{◌⊎◌, inl, inr, ⊎_elim}
 use mathlib.Core.Bool.{Bool, true, false, false≢true}
 use lib.ListN.{length, get_or}
 use Rattle.theory.specs.Limit.{most_states, most_arcs}
-use Rattle.theory.specs.Refusal.{Refusal, refusal, success, work_short}
+use Rattle.theory.specs.Refusal.{Refusal, success, work_short}
 use Rattle.theory.specs.Language.{Word}
 use Rattle.theory.specs.Arcs.{even_arcs}
 use Rattle.theory.specs.Record.{Handed, Work, short, Verdict, accepted, unfinished, wrong, verdict, live, well_formed, WellFormedAutomaton, matcher_refusal}
