@@ -53,7 +53,7 @@ pub fn clear_table(kind: &mut [u8], left: &mut [u16], right: &mut [u16])
 }
 
 // A row of an expression table, read whole.
-#[derive(Drop)]
+#[derive(Clone, Copy)]
 pub struct Row {
     pub kind: u8,
     pub left: u16,
@@ -95,7 +95,7 @@ pub fn row_at(kind: &[u8], left: &[u16], right: &[u16], i: usize) -> Row
 }
 
 // 01: "The text place and the record place are each a small cursor, handed in and handed back."
-#[derive(Drop)]
+#[derive(Clone, Copy)]
 pub struct Cursor {
     pub at: usize,
 }

@@ -50,24 +50,16 @@ pub fn intern(
         (row_tree (as_row w) (trees (table kind.old left.old right.old) used)) result
         (table kind.new left.new right.new) }
 {
-    let k = w.kind;
-    let l = w.left;
-    let r = w.right;
-    let start = search_start(Row {
-        kind: k,
-        left: l,
-        right: r,
-    });
-    let row = find(kind, left, right, used, start, w);
+    let row = find(kind, left, right, used, search_start(w), w);
     if row < used {
         return Interned::At { row, used };
     }
     if room <= used {
         return Interned::Full;
     }
-    kind[used] = k;
-    left[used] = l;
-    right[used] = r;
+    kind[used] = w.kind;
+    left[used] = w.left;
+    right[used] = w.right;
     Interned::At {
         row: used,
         used: used + 1,

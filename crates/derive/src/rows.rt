@@ -21,14 +21,13 @@ pub fn empty_word(kind: &[u8], left: &[u16], right: &[u16], row: usize) -> bool
     ensures { result ≡ empty_word (tree_at (table kind.now left.now right.now) row) }
 {
     let w = columns::row_at(kind, left, right, row);
-    let sign = w.kind;
     match w.children() {
-        Children::Nothing => sign == kind::EMPTY_WORD,
+        Children::Nothing => w.kind == kind::EMPTY_WORD,
         Children::One { child: _ } => true,
         Children::Two { left: l, right: r } => {
             let a = empty_word(kind, left, right, l);
             let b = empty_word(kind, left, right, r);
-            if sign == kind::UNION { a | b } else { a & b }
+            if w.kind == kind::UNION { a | b } else { a & b }
         }
     }
 }
@@ -52,14 +51,8 @@ pub fn take_over(
         (table kind.new left.new right.new) }
 {
     let w = columns::row_at(gkind, gleft, gright, e);
-    let sign = w.kind;
-    let leaf = Row {
-        kind: sign,
-        left: w.left,
-        right: w.right,
-    };
     match w.children() {
-        Children::Nothing => super::intern::intern(kind, left, right, used, room, leaf),
+        Children::Nothing => super::intern::intern(kind, left, right, used, room, w),
         Children::One { child } => {
             match take_over(gkind, gleft, gright, child, kind, left, right, used, room) {
                 Interned::At { row: x, used: u } => {
@@ -78,7 +71,7 @@ pub fn take_over(
                 Interned::At { row: x, used: u } => {
                     match take_over(gkind, gleft, gright, r, kind, left, right, u, room) {
                         Interned::At { row: y, used: v } => {
-                            let paired = super::intern::pair(sign, x, y);
+                            let paired = super::intern::pair(w.kind, x, y);
                             super::intern::intern(kind, left, right, v, room, paired)
                         }
                         full => full,

@@ -12,7 +12,7 @@ use theory::{kind, refusal};
 
 // How far a reading is. 01: "The text place .. a small cursor, handed in and handed back"; with it the parentheses open at once, the entries
 // made, and the room for them.
-#[derive(Drop)]
+#[derive(Clone, Copy)]
 pub struct Point {
     pub cursor: Cursor,
     pub depth: usize,
@@ -22,7 +22,7 @@ pub struct Point {
 
 // 01: "the value with its cursor, or the refusal with its byte". The value is the number of entries made, the expression's own the
 // last of them, or the kind of the entry that a sign will make.
-#[derive(Drop)]
+#[derive(Clone, Copy)]
 pub enum Found {
     Value(usize, Cursor),
     Refused { number: u8, place: usize },
@@ -148,7 +148,7 @@ pub fn stars(text: &[u8], at: Point, kind: &mut [u8], left: &mut [u16], right: &
     let mut cursor = at.cursor;
     let mut made = at.made;
     loop {
-        let Step::Byte(byte, after) = (Cursor { at: cursor.at }).step(text) else {
+        let Step::Byte(byte, after) = cursor.step(text) else {
             return Found::Value(made, cursor);
         };
         if byte != b'*' {

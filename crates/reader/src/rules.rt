@@ -18,16 +18,7 @@ fn expression(text: &[u8], at: Point, kind: &mut [u8], left: &mut [u16], right: 
         (table kind.new left.new right.new)
         × Unstarred text.now result }
 {
-    let first = operand(
-        text,
-        Point {
-            cursor: Cursor { at: at.cursor.at },
-            ..at
-        },
-        kind,
-        left,
-        right,
-    );
+    let first = operand(text, at, kind, left, right);
     let Found::Value(made, cursor) = first else {
         return first;
     };
@@ -49,7 +40,8 @@ fn operand(text: &[u8], at: Point, kind: &mut [u8], left: &mut [u16], right: &mu
             place,
         };
     };
-    let mut after = Point { cursor, ..at };
+    let mut after = at;
+    after.cursor = cursor;
     if byte != b'(' {
         let LeafRow::Of(row) = entries::leaf(byte) else {
             return Found::Refused {
@@ -67,18 +59,7 @@ fn operand(text: &[u8], at: Point, kind: &mut [u8], left: &mut [u16], right: &mu
         };
     }
     after.depth = depth + 1;
-    let x = expression(
-        text,
-        Point {
-            cursor: Cursor {
-                at: after.cursor.at,
-            },
-            ..after
-        },
-        kind,
-        left,
-        right,
-    );
+    let x = expression(text, after, kind, left, right);
     let Found::Value(first, cursor) = x else {
         return x;
     };
@@ -88,18 +69,7 @@ fn operand(text: &[u8], at: Point, kind: &mut [u8], left: &mut [u16], right: &mu
     };
     after.cursor = cursor;
     after.made = first;
-    let y = expression(
-        text,
-        Point {
-            cursor: Cursor {
-                at: after.cursor.at,
-            },
-            ..after
-        },
-        kind,
-        left,
-        right,
-    );
+    let y = expression(text, after, kind, left, right);
     let Found::Value(second, cursor) = y else {
         return y;
     };
@@ -119,7 +89,7 @@ fn beginning(text: &[u8], at: Point, kind: &mut [u8], left: &mut [u16], right: &
     ensures { Begun at.room text.now (table kind.old left.old right.old) result
         (table kind.new left.new right.new) }
 {
-    let start = Cursor { at: at.cursor.at };
+    let start = at.cursor;
     let Step::Byte(byte, cursor) = start.step(text) else {
         return Found::Refused {
             number: refusal::NOT_GRAMMAR,
@@ -157,14 +127,14 @@ pub fn whole(
         room,
     };
     let found = beginning(text, start, kind, left, right);
-    let Found::Value(made, cursor) = found else {
+    let Found::Value(_, cursor) = found else {
         return found;
     };
-    let Step::End = (Cursor { at: cursor.at }).step(text) else {
+    let Step::End = cursor.step(text) else {
         return Found::Refused {
             number: refusal::NOT_GRAMMAR,
             place: cursor.at,
         };
     };
-    Found::Value(made, cursor)
+    found
 }

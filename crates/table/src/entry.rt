@@ -40,11 +40,7 @@ fn fault(entries: usize, i: usize, w: Row) -> u8
     if kind::LAST < kind {
         return refusal::KIND_UNKNOWN;
     }
-    if !fields_fit(Row {
-        kind,
-        left: w.left,
-        right: w.right,
-    }) {
+    if !fields_fit(w) {
         return refusal::FIELD_OUTSIDE;
     }
     if !children_smaller(i, w) {

@@ -8,10 +8,10 @@ returns-then-row-used c =
 
 pub returns-then-room-used : goal.returns-then-room-used
 returns-then-room-used c =
-    intern_full c.requires.fitted c.requires.sound c.search_start-start.ensures c.find-row.ensures c.if-row-used.false
+    intern_full c.requires.fitted c.requires.sound c.search_start.ensures c.find-row.ensures c.if-row-used.false
     c.if-room-used.true
 
 pub returns : goal.returns
 returns c =
-    intern_new c.requires.fitted c.requires.sound c.search_start-start.ensures c.find-row.ensures c.if-row-used.false
+    intern_new c.requires.fitted c.requires.sound c.search_start.ensures c.find-row.ensures c.if-row-used.false
     c.if-room-used.false

@@ -26,12 +26,12 @@ pub returns-in-One : goal.returns-in-One
 returns-in-One t c =
     word_star (reads c.row_at-w.result c.children.result c.requires c.row_at-w.ensures c.children.ensures) c.in-One.is
 
-pub returns-then-sign-eq-UNION : goal.returns-then-sign-eq-UNION
-returns-then-sign-eq-UNION t c =
+pub returns-then-w-eq-UNION : goal.returns-then-w-eq-UNION
+returns-then-w-eq-UNION t c =
     let k = reads c.row_at-w.result c.children.result c.requires c.row_at-w.ensures c.children.ensures in
-    ap₂ ◌||◌ c.empty_word-a.ensures c.empty_word-b.ensures ∙ word_union k c.in-Two.is c.if-sign-eq-UNION.true
+    ap₂ ◌||◌ c.empty_word-a.ensures c.empty_word-b.ensures ∙ word_union k c.in-Two.is c.if-w-eq-UNION.true
 
-pub returns-else-sign-eq-UNION : goal.returns-else-sign-eq-UNION
-returns-else-sign-eq-UNION t c =
+pub returns-else-w-eq-UNION : goal.returns-else-w-eq-UNION
+returns-else-w-eq-UNION t c =
     let k = reads c.row_at-w.result c.children.result c.requires c.row_at-w.ensures c.children.ensures in
-    ap₂ ◌&&◌ c.empty_word-a.ensures c.empty_word-b.ensures ∙ word_both k c.in-Two.is c.if-sign-eq-UNION.false
+    ap₂ ◌&&◌ c.empty_word-a.ensures c.empty_word-b.ensures ∙ word_both k c.in-Two.is c.if-w-eq-UNION.false
