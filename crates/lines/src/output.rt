@@ -40,6 +40,7 @@ pub fn number(block: &mut [u8], used: usize, n: usize, after: u8) -> usize
 }
 
 // Numbers on a line, single-spaced, after the used bytes.
+#[tactic(auto, using(crate::proofs::Putting::number_short))]
 pub fn row(block: &mut [u8], used: usize, numbers: &[u64], last: u64) -> usize
     requires { used + (length numbers.now + 1) * number_room ≤ length block.old }
     ensures put { Put (row numbers.now last) block.old used block.new result }
@@ -55,6 +56,7 @@ pub fn row(block: &mut [u8], used: usize, numbers: &[u64], last: u64) -> usize
 }
 
 // 01: "Both print `refused R P` (number, place) on a refusal".
+#[tactic(auto, using(crate::proofs::Putting::number_short))]
 pub fn refused(block: &mut [u8], used: usize, number: u8, place: usize) -> usize
     requires { used + line_room ≤ length block.old }
     ensures put { Put (refusal_line (refusal number place)) block.old used block.new result }

@@ -21,6 +21,7 @@ use theory::limit;
 const LISTING: usize = site::ARCS * 12 + site::STATES * 4;
 
 // 01: "arcs in table order as `from to label`".
+#[tactic(auto, using(crate::proofs::Bytes::short_number))]
 fn arc(block: &mut [u8], used: usize, from: u16, to: u16, letter: u8) -> usize
     requires { (used + arc_bytes ≤ length block.old) × (from < Rooms.states) × (to < Rooms.states) }
     ensures put { Put (arc_line from to letter) block.old used block.new result }

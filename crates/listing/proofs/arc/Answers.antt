@@ -5,38 +5,6 @@ use Rattle.lines.proofs.Putting.{put_then}
 use Rattle.listing.proofs.Bytes.{short_number, arc_line_short}
 use Rattle.listing.proofs.arc.Goals as goal
 
-pub number-from_put-requires : goal.number-from_put-requires
-number-from_put-requires c =
-    omega (arith, short_number c.args.from space (omega (arith, c.requires.1)), c.requires.0)
-
-pub number-to_put-requires : goal.number-to_put-requires
-number-to_put-requires c =
-    let f = c.number-from_put in
-    omega (
-      arith,
-      short_number c.args.from space (omega (arith, c.requires.1)),
-      short_number c.args.to space (omega (arith, c.requires.2)),
-      f.ensures.count,
-      f.auto.block,
-      c.requires.0,
-    )
-
-pub number-requires : goal.number-requires
-number-requires c =
-    let f = c.number-from_put in
-    let t = c.number-to_put in
-    omega (
-      arith,
-      short_number c.args.from space (omega (arith, c.requires.1)),
-      short_number c.args.to space (omega (arith, c.requires.2)),
-      short_number c.args.letter newline (omega (arith, c.ranges.letter.fits)),
-      f.ensures.count,
-      f.auto.block,
-      t.ensures.count,
-      t.auto.block,
-      c.requires.0,
-    )
-
 pub returns-clause-upper_bound : goal.returns-clause-upper_bound
 returns-clause-upper_bound c =
     let line = put_then (put_then c.number-from_put.ensures c.number-to_put.ensures) c.number.ensures in

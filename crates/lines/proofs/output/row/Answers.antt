@@ -7,19 +7,8 @@ use Rattle.lines.proofs.output.row.Goals as goal
 pub loop-i-init : goal.loop-i-init
 loop-i-init c = spaced_none _ _ _
 
-pub number-at-requires : goal.number-at-requires
-number-at-requires c =
-    let inv = c.loop-i.invariant in
-    let narrow = (c.type_inv.numbers c.loop-i.i).fits in
-    omega (arith, number_short _ space narrow, inv.room, inv.put.same_length, c.loop-i-test.true, c.requires)
-
 pub loop-i-preserved : goal.loop-i-preserved
 loop-i-preserved c = spaced_next c.loop-i.invariant c.loop-i-test.true (c.type_inv.numbers c.loop-i.i).fits c.number-at.ensures
-
-pub number-requires : goal.number-requires
-number-requires c =
-    let inv = c.loop-i.invariant in
-    omega (arith, number_short c.args.last newline (omega (arith, c.ranges.last.fits)), inv.room, inv.within, inv.put.same_length, c.requires)
 
 pub returns-clause-put : goal.returns-clause-put
 returns-clause-put c = (row_put c.loop-i.invariant c.loop-i-test.false (omega (arith, c.ranges.last.fits)) c.number.ensures).0
