@@ -1,7 +1,6 @@
 -- `row` puts number after number.
 use Rattle.std.proofs.Common.{arith}
-use Rattle.theory.specs.Lines.{space, newline}
-use Rattle.lines.proofs.Putting.{spaced_none, spaced_next, row_put, number_short}
+use Rattle.lines.proofs.Putting.{spaced_none, spaced_next, row_put}
 use Rattle.lines.proofs.output.row.Goals as goal
 
 pub loop-i-init : goal.loop-i-init
