@@ -106,7 +106,7 @@ enum gumpaleri_verdict {
  *
  * An expression has n entries: each letter, 0, 1, sign and star is one, and parentheses are none. m of them are letters, counted
  * with repeats. With m at most 10 and GUMPALERI_EXPRESSIONS(n, m) at most 65,535, columns of these lengths are always enough:
- * no expression of that size or a smaller one is refused for room. That is proved (docs/PROMISES.md, host-demands). Most sites
+ * no expression of that size or a smaller one is refused for room. That is proved (docs/PROMISES.md, host_demands). Most sites
  * need far less (docs/SIZING.md), and a smaller room is refused only if the expression does not fit in it.
  * With constants these are constants: for the length of a static column, where m is 1 at the least, and in #if. Arguments may
  * be evaluated twice.

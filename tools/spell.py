@@ -13,7 +13,9 @@ import sys
 
 WORD = r"[^\s(){}.;,`\"⌜⌝]+"
 # Names that the rule would let fall together with another of ours.
-OTHER = {"Leaf-row": "IsLeafRow"}
+OTHER = {"Leaf-row": "IsLeafRow", "Digits·digits": "digits_of"}
+# Words of the older library that stand in names of ours.
+WORDS = {"flatMap": "flat_map", "getD": "get_or"}
 # A file of answers: its names are those of the goals.
 ANSWERS = re.compile(r"\.(Goals|Given) as goal")
 KIT = ("Prim", "native", "mathlib", "lib", "borrow", "denote", "mir")
@@ -32,7 +34,7 @@ def uncommented(text):
 
 
 def declared(text):
-    """The names with a dash that stand before a colon, an equation's head included, or are bound by λ or let."""
+    """The names to be renamed that stand before a colon, an equation's head included, or are bound by λ or let."""
     names = set()
     code = uncommented(text)
     for line in code.split("\n"):
@@ -47,7 +49,7 @@ def declared(text):
             names.add(head.group(1))
         for part in re.finditer(r"\b(%s) (?:as )" % WORD, line):
             names.add(part.group(1))
-    return {n for n in names if re.fullmatch(r"[^\W\d_+][^\s]*|[∅∪⊎][^\s]*", n) and "-" in n.strip("-") and not n.startswith("-")}
+    return {n for n in names if re.fullmatch(r"[^\W\d_+][^\s]*|[∅∪⊎][^\s]*", n) and not n.startswith("-") and respelled(n) != n}
 
 
 def foreign(text):
@@ -69,6 +71,8 @@ def respelled(name):
         return OTHER[name]
     if name[0].isupper():
         return "".join(p[:1].upper() + p[1:] for p in name.split("-"))
+    for old, new in WORDS.items():
+        name = name.replace(old, new)
     return name.replace("-", "_")
 
 
@@ -82,6 +86,7 @@ def table():
         if ANSWERS.search(text):
             continue
         names |= declared(text) - foreign(text)
+        names |= {n for n in OTHER if f" as {n}" in text}
     return {n: respelled(n) for n in sorted(names)}
 
 
@@ -130,7 +135,7 @@ def main(argv):
         if ANSWERS.search(text):
             continue
         outside = foreign(text)
-        here = {a: b for a, b in names.items() if a not in outside}
+        here = {a: b for a, b in names.items() if a not in outside or a in OTHER}
         tokens = set(TOKEN.findall(text))
         for a in sorted(tokens & set(here)):
             if here[a] in tokens:

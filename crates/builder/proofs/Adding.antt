@@ -17,7 +17,7 @@ use Rattle.theory.specs.Automaton.{Arc, arc, states}
 use Rattle.theory.specs.Column.{filled}
 use Rattle.theory.specs.Table.{Table, tree_at}
 use Rattle.theory.specs.Build.{Lent, lent, Names}
-use Rattle.theory.proofs.Distinct.{getD_member, at_place, place_below}
+use Rattle.theory.proofs.Distinct.{get_or_member, at_place, place_below}
 use Rattle.theory.specs.Meetings.{Meeting, meeting, Starts, so_far, to_arc}
 use Rattle.theory.specs.Arcs.{ArcColumns, arc_columns, Spans, with_arc, filled_arcs}
 use Rattle.theory.proofs.Column.{field_more}
@@ -117,7 +117,7 @@ module _ {e : Expression} {done : List Meeting} {c : Lent} {k : Counts} (p : Pro
   known_added j l q space =
       let below : j < length (so_far e done) = subst (λ (n : ℕ). j < n) p.state_count l in
       let is = found_state j l q in
-      let same_states = so_far_known e done (meeting i a (tree_at c.rows r)) (Memᴰ.cast (sym is) (getD_member (so_far e done) j ∅ below)) in
+      let same_states = so_far_known e done (meeting i a (tree_at c.rows r)) (Memᴰ.cast (sym is) (get_or_member (so_far e done) j ∅ below)) in
       arc_added k.states j c.expression c.accepting (p.state_count ∙ ap length (sym same_states))
       (subst (Names c.rows k.rows c.expression) (sym same_states) p.named)
       (p.accepting ∙ ap (λ ss. filled (length c.accepting) (map (λ y. cond (empty_word y) 1 0) ss)) (sym same_states))

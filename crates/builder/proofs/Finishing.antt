@@ -15,7 +15,7 @@ use Rattle.theory.specs.Derivative.{empty_word}
 use Rattle.theory.specs.Column.{filled}
 use Rattle.theory.specs.Table.{Table, Row, row, row_tree, Sound, of_∅, of_ε, of_letter, of_sign, of_star, meaning, node, trees, tree_at}
 use Rattle.theory.specs.Build.{Lent, Names, Holds, Stands}
-use Rattle.theory.proofs.Distinct.{getD_member, no_longer, place_below, at_place}
+use Rattle.theory.proofs.Distinct.{get_or_member, no_longer, place_below, at_place}
 use Rattle.theory.proofs.Trees.{trees_length, to_trees}
 use Rattle.theory.proofs.Sound.{sign_tree}
 use Rattle.theory.specs.Needs.{Tree, empty, part}
@@ -35,7 +35,7 @@ module _ (ts : List Expression) (held : (x z : Expression) → Memᴰ x ts → M
   Goes z x = Memᴰ z (parts x) → Memᴰ z (ts ++ (x ∷ []))
 
   child : (z : Expression) (l i : ℕ) (more : List Expression) → i ≡ length ts → l < i → Memᴰ z (parts (get_or ts l ∅)) → Memᴰ z (ts ++ more)
-  child z l i more e h m = Memᴰ.append_left more (held (get_or ts l ∅) z (getD_member ts l ∅ (subst (λ (k : ℕ). l < k) e h)) m)
+  child z l i more e h m = Memᴰ.append_left more (held (get_or ts l ∅) z (get_or_member ts l ∅ (subst (λ (k : ℕ). l < k) e h)) m)
 
   part_held : (z : Expression) (i : ℕ) (w : Row) → i ≡ length ts → Sound i w → Goes z (row_tree w ts)
   unfolding Goes parts row_tree meaning node

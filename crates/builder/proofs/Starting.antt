@@ -24,7 +24,7 @@ use Rattle.theory.proofs.States.{states_some, states_first}
 use Rattle.theory.proofs.Nearing.{parts_needed, ε_needed}
 use Rattle.theory.specs.Meetings.{so_far}
 use Rattle.theory.specs.Arcs.{ArcColumns, arc_columns, no_arcs, filled_arcs}
-use Rattle.theory.proofs.Column.{getD_zeros, zero_filled, column_more}
+use Rattle.theory.proofs.Column.{get_or_zeros, zero_filled, column_more}
 use Rattle.derive.specs.Rows.{Rows, Short, SoundTo}
 use Rattle.derive.proofs.Coming.{short_exceeds}
 use Rattle.derive.proofs.Taking.{Took}
@@ -34,7 +34,7 @@ use Rattle.builder.proofs.Adding.{names_more}
 use Rattle.builder.proofs.Lengths.{SameLengths}
 
 zero_at : (column : List ℕ) (i : ℕ) → column ≡ zeros (length column) → get_or column i 0 ≡ 0
-zero_at column i e = ap (λ (c : List ℕ). get_or c i 0) e ∙ getD_zeros (length column) i
+zero_at column i e = ap (λ (c : List ℕ). get_or c i 0) e ∙ get_or_zeros (length column) i
 
 -- The given expression is needed as a state.
 pub root_state : (e : Expression) → Memᴰ e (states e)

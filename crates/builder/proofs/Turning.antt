@@ -11,7 +11,7 @@ use Rattle.theory.specs.Expression.{Expression, ∅}
 use Rattle.theory.specs.Derivative.{derivative}
 use Rattle.theory.specs.Automaton.{states, ascending}
 use Rattle.theory.specs.Build.{Lent}
-use Rattle.theory.proofs.Distinct.{getD_member}
+use Rattle.theory.proofs.Distinct.{get_or_member}
 use Rattle.theory.specs.Limit.{most_states, last_letter}
 use Rattle.theory.specs.Meetings.{meetings, before, by_letters, by_states, Starts, so_far}
 use Rattle.theory.proofs.Meetings.{before_skip, before_state}
@@ -54,7 +54,7 @@ turns_left i a = (most_states + 1) * (last_letter + 1) - (i * (last_letter + 1) 
 module _ {e : Expression} (gathered : Letters) (knows : Knows gathered e) {rooms : Counts} {c : Lent} {k : Counts} where
   -- By letters that are not used nothing is met.
   nothing : {i a : ℕ} → AtLetter e i a rooms c k → (b : ℕ) → b ≤ last_letter → used gathered b ≡ false → derivative b (get_or (states e) i ∅) ≡ []
-  nothing {i} m b l q = unused_nothing e (get_or (states e) i ∅) b (getD_member (states e) i ∅ m.within) (knows b l q)
+  nothing {i} m b l q = unused_nothing e (get_or (states e) i ∅) b (get_or_member (states e) i ∅ m.within) (knows b l q)
 
   pub next_letter : {i a b : ℕ} → AtLetter e i a rooms c k → IsNext gathered a (Letter b)
       → AtMember e i b (get_or c.expression i 0) rooms Start c k

@@ -7,7 +7,7 @@ use mathlib.Core.List.{List, [], ◌∷◌, ◌++◌}
 use lib.ListN.{length, get_or, take, set, length-set}
 use lib.Seq.{take-suc, take-suc-set, take_all}
 use Rattle.theory.specs.Column.{zeros, filled}
-use Rattle.theory.proofs.Column.{getD_filled, filled_length}
+use Rattle.theory.proofs.Column.{get_or_filled, filled_length}
 
 -- The first i numbers of the slice, which was counts₀, are those that it is to hold at the end.
 pub record Stored (counts₀ values counts : List ℕ) (end i : ℕ) : Type 0 where
@@ -34,7 +34,7 @@ module _ {counts₀ values counts : List ℕ} {end i : ℕ} (s : Stored counts�
         front =
             ap (λ (k : ℕ). take k (set counts i v)) (add-one i)
             ∙ take-suc-set counts i v here
-            ∙ ap₂ (λ (xs : List ℕ) (x : ℕ). xs ++ x ∷ []) s.front (e ∙ sym (getD_filled (length counts₀) values i))
+            ∙ ap₂ (λ (xs : List ℕ) (x : ℕ). xs ++ x ∷ []) s.front (e ∙ sym (get_or_filled (length counts₀) values i))
             ∙ sym (take-suc goal i 0 there)
             ∙ ap (λ (k : ℕ). take k goal) (sym (add-one i));
       }

@@ -7,10 +7,10 @@ use mathlib.Core.List.{List, [], ◌∷◌, ◌++◌, flat_map, append-nil, appe
 use lib.ListN.{length, get_or, take, set, length-take, length-set, length-append}
 use lib.Seq.{take_all, take-suc, take-suc-set}
 use Rattle.io.specs.Digits.{IsDigitCount}
-use Rattle.io.specs.Digits.{last_digits as Digits·digits}
+use Rattle.io.specs.Digits.{last_digits as digits_of}
 use Rattle.theory.specs.Refusal.{Refusal}
 use Rattle.theory.specs.Lines.{decimal, number_and, space, newline, row, refusal_line}
-use Rattle.theory.proofs.Members.{flatMap_append}
+use Rattle.theory.proofs.Members.{flat_map_append}
 use Rattle.lines.specs.Output.{Put, number_room, line_room}
 use Rattle.lines.proofs.Decimal.{decimal_digits, decimal_short}
 
@@ -63,7 +63,7 @@ pub put_all : (bytes : List ℕ) (i : ℕ) {used used' : ℕ} {before after : Li
 put_all bytes i {used} {used'} {before} {after} l p = subst (λ (text : List ℕ). Put text before used after used') (take_all i bytes l) p
 
 -- A number and a byte, where the digits are the fewest that hold the number.
-pub number_text : (n k : ℕ) (digits : List ℕ) → IsDigitCount 10 1 n k → take k digits ≡ Digits·digits 10 k n → take k digits ≡ decimal n
+pub number_text : (n k : ℕ) (digits : List ℕ) → IsDigitCount 10 1 n k → take k digits ≡ digits_of 10 k n → take k digits ≡ decimal n
 number_text n k digits f d = d ∙ decimal_digits n k f
 
 -- The byte after a number has room, and makes it whole.
@@ -107,7 +107,7 @@ spaced_more : (numbers : List ℕ) (i : ℕ) → i < length numbers → spaced n
 unfolding spaced flat_map
 spaced_more numbers i l =
     ap (λ (xs : List ℕ). flat_map (λ n. number_and n space) xs) (ap (λ (n : ℕ). take n numbers) (one_more i) ∙ take-suc numbers i 0 l)
-    ∙ flatMap_append (λ n. number_and n space) (take i numbers) (get_or numbers i 0 ∷ [])
+    ∙ flat_map_append (λ n. number_and n space) (take i numbers) (get_or numbers i 0 ∷ [])
     ∙ ap (λ (x : List ℕ). flat_map (λ n. number_and n space) (take i numbers) ++ x) (append-nil (number_and (get_or numbers i 0) space))
 
 -- The first i numbers stand, each in its room.

@@ -1,5 +1,5 @@
--- What a taken line is: the bytes that stood in the lent block, up to a newline; where they do not reach one, what C's read put into the block
--- after them. What a read puts there is libc's to say.
+-- What a taken line is: the bytes that stood in the lent block, up to a newline; where they do not reach one, what a read put into the block
+-- after them. What a read puts there is the source's to say.
 use Rattle.std.specs.Prelude.{ℕ, ◌+◌, ◌≤◌, ◌<◌, ◌≡◌, Bool, true, false, cond, ◌⊎◌, length, take, eqb}
 use mathlib.Core.List.{List, [], ◌∷◌, ◌++◌, Memᴰ}
 use Rattle.std.proofs.Math.Seq.{slice}

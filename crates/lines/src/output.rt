@@ -115,7 +115,7 @@ pub fn with_room(block: &[u8], used: usize, waits: bool) -> Room
     }
 }
 
-// A program has no exit status: a read or a write that fails is told on standard error.
+// The programs set no exit status: a read or a write that fails is told on standard error.
 pub fn tell_read_failed() -> Written
     ensures { Wrote 29 result }
 {

@@ -11,10 +11,10 @@ use Rattle.theory.specs.Column.{filled}
 use Rattle.theory.specs.Automaton.{Arc, states, accepting, arcs, ascending}
 use Rattle.theory.specs.Arcs.{ArcColumns, arc_at, first_arcs, filled_arcs}
 use Rattle.theory.specs.Lines.{arc_line, listing}
-use Rattle.theory.proofs.Column.{getD_filled}
+use Rattle.theory.proofs.Column.{get_or_filled}
 use Rattle.theory.proofs.Filled.{filled_is}
 use Rattle.theory.proofs.Meetings.{ascending_more}
-use Rattle.theory.proofs.Members.{flatMap_append}
+use Rattle.theory.proofs.Members.{flat_map_append}
 use Rattle.lines.specs.Output.{Put}
 use Rattle.lines.proofs.Putting.{put_nothing, put_then}
 use Rattle.listing.specs.Listing.{arc_lines, state_text, state_lines}
@@ -29,7 +29,7 @@ arc_lines_none c = refl
 arc_lines_more : (c : ArcColumns) (n : ℕ) → arc_lines c (n + 1) ≡ arc_lines c n ++ line_of (arc_at c n)
 unfolding arc_lines flat_map first_arcs
 arc_lines_more c n =
-    ap (arc_lines c) (add-one n) ∙ flatMap_append line_of (first_arcs c n) (arc_at c n ∷ [])
+    ap (arc_lines c) (add-one n) ∙ flat_map_append line_of (first_arcs c n) (arc_at c n ∷ [])
     ∙ ap (λ (x : List ℕ). arc_lines c n ++ x) (append-nil (line_of (arc_at c n)))
 
 state_lines_none : (flags : List ℕ) → state_lines flags 0 ≡ []
@@ -40,7 +40,7 @@ state_lines_more : (flags : List ℕ) (n : ℕ) → state_lines flags (n + 1) �
 unfolding state_lines flat_map
 state_lines_more flags n =
     let text : ℕ → List ℕ = λ s. state_text (get_or flags s 0) s in
-    ap (state_lines flags) (add-one n) ∙ ap (flat_map text) (ascending_more 0 n) ∙ flatMap_append text (ascending 0 n) ((0 + n) ∷ [])
+    ap (state_lines flags) (add-one n) ∙ ap (flat_map text) (ascending_more 0 n) ∙ flat_map_append text (ascending 0 n) ((0 + n) ∷ [])
     ∙ ap (λ (x : List ℕ). state_lines flags n ++ x) (append-nil (text (0 + n)) ∙ ap text (zero-add n))
 
 -- The listing, from filled columns.
@@ -49,7 +49,7 @@ pub listed : (e : Expression) (size : ℕ) (c : ArcColumns)
 unfolding arc_lines state_lines listing
 listed e size c =
     ap₂ (λ (zs : List Arc) (flags : ℕ → ℕ). flat_map line_of zs ++ flat_map (λ s. state_text (flags s) s) (ascending 0 (length (states e))))
-    (filled_is e size c).arcs (λ i s. getD_filled size (accepting e) s i)
+    (filled_is e size c).arcs (λ i s. get_or_filled size (accepting e) s i)
 
 -- ---- In a block
 

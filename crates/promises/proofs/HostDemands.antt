@@ -19,7 +19,7 @@ use Rattle.theory.specs.Judge.{Judgement, Judged, given}
 use Rattle.theory.proofs.Expressed.{expressed}
 use Rattle.theory.proofs.Grammar.{unambiguous}
 use Rattle.theory.proofs.Answers.{counts_built, judgement_given}
-use Rattle.theory.proofs.Column.{getD_filled, filled_length}
+use Rattle.theory.proofs.Column.{get_or_filled, filled_length}
 use Rattle.host.specs.Host.{packed, HostBuilds, HostJudges}
 use Rattle.promises.specs.Table.{WellFormed}
 use Rattle.promises.specs.Matcher as Matcher
@@ -62,7 +62,7 @@ judge_tells {h} {w} {k} {a = a} counts l j z =
       wrong = t.wrong;
       place = subst (λ (a : Judgement). ¬ (a.verdict ≡ 3) → a.place ≡ 0) (sym is) (place_none (verdict h w) (live h w));
       live = t.live;
-      rest = λ i m. getD_filled (length counts) told i ∙ get_or-eq_default told 0 m;
+      rest = λ i m. get_or_filled (length counts) told i ∙ get_or-eq_default told 0 m;
       whole = filled_length (length counts) told (omega arith);
     }
 

@@ -15,7 +15,7 @@ use Rattle.theory.specs.Automaton.{ascending, alphabet, states, itself, acceptin
 use Rattle.theory.specs.Meetings.{Meeting, meeting, by_letters, by_states, meetings, so_far, to_arc}
 use Rattle.theory.specs.Record.{automaton, verdict, live}
 use Rattle.theory.specs.Lines.{space, newline, decimal, number_and, arc_line, state_line, listing}
-use Rattle.theory.proofs.Members.{flatMap_of}
+use Rattle.theory.proofs.Members.{flat_map_of}
 use Rattle.theory.proofs.States.{states_first, states_only}
 use Rattle.theory.proofs.Meetings.{arcs_met, so_far_met}
 use Rattle.promises.specs.Printed.{Printed, BeginsAtZero, State0First}
@@ -39,7 +39,7 @@ printed = record {
 met_from : (i : ℕ) (x : Expression) (ls : List ℕ) {m : Meeting} → Memᴰ m (by_letters i x ls) → m.from ≡ i
 unfolding by_letters
 met_from i x ls h =
-    let (a, _, k) = flatMap_of (λ a. map (meeting i a) (derivative a x)) ls h in
+    let (a, _, k) = flat_map_of (λ a. map (meeting i a) (derivative a x)) ls h in
     let (_, _, q) = Memᴰ.of_map (meeting i a) (derivative a x) k in
     sym (ap (λ (m : Meeting). m.from) q)
 

@@ -17,7 +17,7 @@ use borrow.Author.Tests.{eq-eqb, ne_eqb, eqb-true, eqb-false}
 use Rattle.theory.specs.Column.{zeros}
 use Rattle.theory.specs.Below.{some_below, count_below}
 use Rattle.theory.proofs.Below.{some_front, count_front, some_cong, count_cong, some_add, count_add}
-use Rattle.theory.proofs.Column.{getD_zeros}
+use Rattle.theory.proofs.Column.{get_or_zeros}
 use Rattle.sets.specs.Bits.{digit, bit}
 
 -- ---- Digits
@@ -128,7 +128,7 @@ bit_away words i v t n = ap (λ (w : ℕ). digit w (t % 64)) (get_or-set_other w
 -- Nothing is set in a column that is clear.
 pub none_set : (n : ℕ) {words : List ℕ} → words ≡ zeros n → (t : ℕ) → bit words t ≡ false
 unfolding bit
-none_set n e t = ap (λ (w : ℕ). digit w (t % 64)) (ap (λ (c : List ℕ). get_or c (t / 64) 0) e ∙ getD_zeros n (t / 64)) ∙ digit_zero (t % 64)
+none_set n e t = ap (λ (w : ℕ). digit w (t % 64)) (ap (λ (c : List ℕ). get_or c (t / 64) 0) e ∙ get_or_zeros n (t / 64)) ∙ digit_zero (t % 64)
 
 -- A number's digit set in its word: that number's bit is set, and every other is as it was.
 pub bit_mark : (words : List ℕ) (number : ℕ) → number / 64 < length words → (t : ℕ)

@@ -18,7 +18,7 @@ use Rattle.theory.specs.Derivative.{derivative}
 use Rattle.theory.specs.Automaton.{ascending, alphabet, states, expressions, arc, leaving, leaving_all, arcs}
 use Rattle.theory.proofs.Distinct.{distinct_of, distinct_no_repeats, no_longer}
 use Rattle.theory.proofs.Derivative.{derivative_no_repeats}
-use Rattle.theory.proofs.Members.{flatMap_of, length_flatMap_among}
+use Rattle.theory.proofs.Members.{flat_map_of, length_flat_map_among}
 use Rattle.theory.proofs.Support.{support, stays, support_stays, support_bound}
 use Rattle.theory.proofs.States.{derived_support, derived_bound, states_derived, states_no_repeats}
 use Rattle.theory.proofs.Bounds.Letters.{derivative_letter, support_letters}
@@ -38,7 +38,7 @@ expressions_bound e = le_trans (no_longer same (expressions e) (cover e) (distin
   where
     within : Within (expressions e) (cover e)
     within z h =
-        ⊎_elim (cover_ε e z) (λ t. let r = flatMap_of parts (states e) t in parts_cover e r.0 (states_support e r.0 r.1) z r.2)
+        ⊎_elim (cover_ε e z) (λ t. let r = flat_map_of parts (states e) t in parts_cover e r.0 (states_support e r.0 r.1) z r.2)
         (Memᴰ.cases_cons (distinct_of same (ε ∷ flat_map parts (states e)) z h))
 
 -- ---- Arcs
@@ -69,7 +69,7 @@ module _ (e : Expression) where
       → length (leaving s i x) ≤ length (letters e) * 2 ^ length (letters e)
   unfolding leaving
   leaving_bound s i x h =
-      length_flatMap_among (λ a. map (λ m. arc i a (place same m s)) (derivative a x)) (2 ^ length (letters e)) ℕ_discrete alphabet (letters e)
+      length_flat_map_among (λ a. map (λ m. arc i a (place same m s)) (derivative a x)) (2 ^ length (letters e)) ℕ_discrete alphabet (letters e)
       alphabet_no_repeats (λ a. rw length-map (derivative_bound a x h))
       (λ a z t. let r = Memᴰ.of_map (λ m. arc i a (place same m s)) (derivative a x) t in
       support_letters e x h a (derivative_letter a x r.0 r.1))

@@ -9,24 +9,24 @@ use lib.ListN.{length, get_or, take, set, length-append, length-map, length-set,
 use lib.Seq.{take-append_seam, set-append_seam, append_snoc}
 use Rattle.theory.specs.Column.{zeros, filled}
 
-pub getD_zeros : (n i : ℕ) → get_or (zeros n) i 0 ≡ 0
-getD_zeros zero i = refl
-getD_zeros (suc n) zero = refl
-getD_zeros (suc n) (suc i) = getD_zeros n i
+pub get_or_zeros : (n i : ℕ) → get_or (zeros n) i 0 ≡ 0
+get_or_zeros zero i = refl
+get_or_zeros (suc n) zero = refl
+get_or_zeros (suc n) (suc i) = get_or_zeros n i
 
 -- Zero is also what is read beyond a column's end.
-getD_more : (xs : List ℕ) (n i : ℕ) → get_or (xs ++ zeros n) i 0 ≡ get_or xs i 0
-getD_more [] n i = getD_zeros n i
-getD_more (x ∷ xs) n zero = refl
-getD_more (x ∷ xs) n (suc i) = getD_more xs n i
+get_or_more : (xs : List ℕ) (n i : ℕ) → get_or (xs ++ zeros n) i 0 ≡ get_or xs i 0
+get_or_more [] n i = get_or_zeros n i
+get_or_more (x ∷ xs) n zero = refl
+get_or_more (x ∷ xs) n (suc i) = get_or_more xs n i
 
 -- A column that is all zero is filled with nothing.
 pub zero_filled : (n : ℕ) → zeros n ≡ filled n []
 zero_filled n = ap zeros (sym (sub-zero n))
 
 module _ (n : ℕ) (xs : List ℕ) where
-  pub getD_filled : (i : ℕ) → get_or (filled n xs) i 0 ≡ get_or xs i 0
-  getD_filled i = getD_more xs (n - length xs) i
+  pub get_or_filled : (i : ℕ) → get_or (filled n xs) i 0 ≡ get_or xs i 0
+  get_or_filled i = get_or_more xs (n - length xs) i
 
   pub take_filled : take (length xs) (filled n xs) ≡ xs
   take_filled = take-append_seam xs (zeros (n - length xs))

@@ -10,10 +10,10 @@ use mathlib.Core.List.{List, [], ◌∷◌, ◌++◌, Memᴰ, append-nil}
 use lib.ListN.{length, get_or}
 use Rattle.theory.specs.Distinct.{unless, here_or, without, distinct, beyond, place, NoRepeats, Within}
 
-pub getD_member : {A : Type 0} (ys : List A) (i : ℕ) (d : A) → i < length ys → Memᴰ (get_or ys i d) ys
-getD_member [] i d h = absurd (not-suc-le-zero h)
-getD_member (y ∷ ys) zero d h = Memᴰ.head refl
-getD_member (y ∷ ys) (suc i) d h = Memᴰ.tail (getD_member ys i d (le_of_suc-le-suc h))
+pub get_or_member : {A : Type 0} (ys : List A) (i : ℕ) (d : A) → i < length ys → Memᴰ (get_or ys i d) ys
+get_or_member [] i d h = absurd (not-suc-le-zero h)
+get_or_member (y ∷ ys) zero d h = Memᴰ.head refl
+get_or_member (y ∷ ys) (suc i) d h = Memᴰ.tail (get_or_member ys i d (le_of_suc-le-suc h))
 
 module _ {A : Type 0} (same : Discrete A) where
   pub member? : (x : A) (xs : List A) → Dec (Memᴰ x xs)
@@ -242,5 +242,5 @@ module _ {A : Type 0} (same : Discrete A) where
   place_of (y ∷ ys) (suc i) d r h = go (same (get_or ys i d) y) (place_of ys i d r.1 (le_of_suc-le-suc h))
     where
       go : (k : Dec (get_or ys i d ≡ y)) → place same (get_or ys i d) ys ≡ i → here_or k (place same (get_or ys i d) ys) ≡ suc i
-      go (yes p) ih = absurd (r.0 (Memᴰ.cast (sym p) (getD_member ys i d (le_of_suc-le-suc h))))
+      go (yes p) ih = absurd (r.0 (Memᴰ.cast (sym p) (get_or_member ys i d (le_of_suc-le-suc h))))
       go (no n) ih = ap suc ih

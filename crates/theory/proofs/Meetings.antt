@@ -13,7 +13,7 @@ use Rattle.theory.specs.Expression.{Expression, ∅, same}
 use Rattle.theory.specs.Distinct.{distinct, beyond}
 use Rattle.theory.specs.Derivative.{derivative}
 use Rattle.theory.proofs.Distinct.{distinct_append, distinct_known, distinct_new, distinct_of, to_distinct}
-use Rattle.theory.proofs.Members.{map_same, flatMap_append}
+use Rattle.theory.proofs.Members.{map_same, flat_map_append}
 use Rattle.theory.proofs.States.{Begins, states_complete}
 use Rattle.theory.specs.Automaton.{ascending, alphabet, successors, met, states, leaving, leaving_all, arcs}
 use Rattle.theory.specs.Limit.{last_letter}
@@ -21,21 +21,21 @@ use Rattle.theory.specs.Meetings.{Meeting, meeting, by_letters, by_states, befor
 
 -- ---- Arcs and states from what is met
 
-map_flatMap : {A B C : Type 0} (g : B → C) (f : A → List B) (xs : List A) → map g (flat_map f xs) ≡ flat_map (λ x. map g (f x)) xs
+map_flat_map : {A B C : Type 0} (g : B → C) (f : A → List B) (xs : List A) → map g (flat_map f xs) ≡ flat_map (λ x. map g (f x)) xs
 unfolding flat_map
-map_flatMap g f [] = refl
-map_flatMap g f (x ∷ xs) = map-append g (f x) (flat_map f xs) ∙ ap (λ ys. map g (f x) ++ ys) (map_flatMap g f xs)
+map_flat_map g f [] = refl
+map_flat_map g f (x ∷ xs) = map-append g (f x) (flat_map f xs) ∙ ap (λ ys. map g (f x) ++ ys) (map_flat_map g f xs)
 
-flatMap_cong : {A B : Type 0} (f g : A → List B) (xs : List A) → ((x : A) → f x ≡ g x) → flat_map f xs ≡ flat_map g xs
+flat_map_cong : {A B : Type 0} (f g : A → List B) (xs : List A) → ((x : A) → f x ≡ g x) → flat_map f xs ≡ flat_map g xs
 unfolding flat_map
-flatMap_cong f g [] h = refl
-flatMap_cong f g (x ∷ xs) h = ap₂ ◌++◌ (h x) (flatMap_cong f g xs h)
+flat_map_cong f g [] h = refl
+flat_map_cong f g (x ∷ xs) h = ap₂ ◌++◌ (h x) (flat_map_cong f g xs h)
 
 leaving_met : (s : List Expression) (i : ℕ) (x : Expression) → leaving s i x ≡ map (to_arc s) (by_letters i x alphabet)
 unfolding leaving by_letters
 leaving_met s i x =
-    sym (map_flatMap (to_arc s) (λ a. map (meeting i a) (derivative a x)) alphabet
-    ∙ flatMap_cong _ _ alphabet (λ a. map-map (to_arc s) (meeting i a) (derivative a x)))
+    sym (map_flat_map (to_arc s) (λ a. map (meeting i a) (derivative a x)) alphabet
+    ∙ flat_map_cong _ _ alphabet (λ a. map-map (to_arc s) (meeting i a) (derivative a x)))
 
 all_leaving_met : (s : List Expression) (i : ℕ) (xs : List Expression) → leaving_all s i xs ≡ map (to_arc s) (by_states i xs)
 unfolding leaving_all by_states
@@ -51,8 +51,8 @@ arcs_met e = all_leaving_met (states e) 0 (states e)
 letters_targets : (i : ℕ) (x : Expression) → targets (by_letters i x alphabet) ≡ successors x
 unfolding by_letters successors
 letters_targets i x =
-    map_flatMap (λ (m : Meeting). m.target) (λ a. map (meeting i a) (derivative a x)) alphabet
-    ∙ flatMap_cong _ _ alphabet (λ a. map-map (λ (m : Meeting). m.target) (meeting i a) (derivative a x) ∙ map_same (λ m. m) (λ m. refl) (derivative a x))
+    map_flat_map (λ (m : Meeting). m.target) (λ a. map (meeting i a) (derivative a x)) alphabet
+    ∙ flat_map_cong _ _ alphabet (λ a. map-map (λ (m : Meeting). m.target) (meeting i a) (derivative a x) ∙ map_same (λ m. m) (λ m. refl) (derivative a x))
 
 states_targets : (i : ℕ) (xs : List Expression) → targets (by_states i xs) ≡ flat_map successors xs
 unfolding by_states flat_map
@@ -114,7 +114,7 @@ ascending_split first (suc m) n =
 
 pub by_letters_append : (i : ℕ) (x : Expression) (us vs : List ℕ) → by_letters i x (us ++ vs) ≡ by_letters i x us ++ by_letters i x vs
 unfolding by_letters
-by_letters_append i x us vs = flatMap_append (λ a. map (meeting i a) (derivative a x)) us vs
+by_letters_append i x us vs = flat_map_append (λ a. map (meeting i a) (derivative a x)) us vs
 
 pub by_states_append : (i : ℕ) (xs ys : List Expression) → by_states i (xs ++ ys) ≡ by_states i xs ++ by_states (i + length xs) ys
 unfolding by_states

@@ -31,32 +31,32 @@ module _ {A B : Type 0} where
   pub within_map : (f : A → B) (xs : List A) {ys : List A} → Within xs ys → Within (map f xs) (map f ys)
   within_map f xs p z m = let r = Memᴰ.of_map f xs m in Memᴰ.cast (sym r.2) (Memᴰ.map f (p r.0 r.1))
 
-  pub to_flatMap : (f : A → List B) {x : A} {xs : List A} {z : B} → Memᴰ x xs → Memᴰ z (f x) → Memᴰ z (flat_map f xs)
+  pub to_flat_map : (f : A → List B) {x : A} {xs : List A} {z : B} → Memᴰ x xs → Memᴰ z (f x) → Memᴰ z (flat_map f xs)
   unfolding flat_map
-  to_flatMap f {z = z} (Memᴰ.head {xs = ys} e) h = Memᴰ.append_left (flat_map f ys) (subst (λ y. Memᴰ z (f y)) e h)
-  to_flatMap f (Memᴰ.tail {x = y} m) h = Memᴰ.append_right (f y) (to_flatMap f m h)
+  to_flat_map f {z = z} (Memᴰ.head {xs = ys} e) h = Memᴰ.append_left (flat_map f ys) (subst (λ y. Memᴰ z (f y)) e h)
+  to_flat_map f (Memᴰ.tail {x = y} m) h = Memᴰ.append_right (f y) (to_flat_map f m h)
 
-  pub flatMap_of : (f : A → List B) (xs : List A) {z : B} → Memᴰ z (flat_map f xs) → (x : A) × Memᴰ x xs × Memᴰ z (f x)
+  pub flat_map_of : (f : A → List B) (xs : List A) {z : B} → Memᴰ z (flat_map f xs) → (x : A) × Memᴰ x xs × Memᴰ z (f x)
   unfolding flat_map
-  flatMap_of f [] m = absurd (Memᴰ.not-nil m)
-  flatMap_of f (x ∷ xs) {z} m = go (λ h. flatMap_of f xs h) (Memᴰ.append_cases (f x) m)
+  flat_map_of f [] m = absurd (Memᴰ.not-nil m)
+  flat_map_of f (x ∷ xs) {z} m = go (λ h. flat_map_of f xs h) (Memᴰ.append_cases (f x) m)
     where
       go : (Memᴰ z (flat_map f xs) → (y : A) × Memᴰ y xs × Memᴰ z (f y)) → Memᴰ z (f x) ⊎ Memᴰ z (flat_map f xs)
           → (y : A) × Memᴰ y (x ∷ xs) × Memᴰ z (f y)
       go ih (inl h) = (x, Memᴰ.head refl, h)
       go ih (inr h) = let r = ih h in (r.0, Memᴰ.tail r.1, r.2)
 
-  pub flatMap_append : (f : A → List B) (xs ys : List A) → flat_map f (xs ++ ys) ≡ flat_map f xs ++ flat_map f ys
+  pub flat_map_append : (f : A → List B) (xs ys : List A) → flat_map f (xs ++ ys) ≡ flat_map f xs ++ flat_map f ys
   unfolding flat_map
-  flatMap_append f [] ys = refl
-  flatMap_append f (x ∷ xs) ys = ap (λ t. f x ++ t) (flatMap_append f xs ys) ∙ sym (append_assoc (f x) (flat_map f xs) (flat_map f ys))
+  flat_map_append f [] ys = refl
+  flat_map_append f (x ∷ xs) ys = ap (λ t. f x ++ t) (flat_map_append f xs ys) ∙ sym (append_assoc (f x) (flat_map f xs) (flat_map f ys))
 
   -- At most k for each member.
-  pub length_flatMap : (f : A → List B) (k : ℕ) (xs : List A) → ((x : A) → Memᴰ x xs → length (f x) ≤ k) → length (flat_map f xs) ≤ length xs * k
+  pub length_flat_map : (f : A → List B) (k : ℕ) (xs : List A) → ((x : A) → Memᴰ x xs → length (f x) ≤ k) → length (flat_map f xs) ≤ length xs * k
   unfolding flat_map
-  length_flatMap f k [] b = zero-le
-  length_flatMap f k (x ∷ xs) b =
-      let ih = length_flatMap f k xs (λ y m. b y (Memᴰ.tail m)) in
+  length_flat_map f k [] b = zero-le
+  length_flat_map f k (x ∷ xs) b =
+      let ih = length_flat_map f k xs (λ y m. b y (Memᴰ.tail m)) in
       let h = b x (Memᴰ.head refl) in
       rw (length-append, suc-mul) (omega arith)
 
@@ -92,9 +92,9 @@ module _ {A B : Type 0} (f : A → List B) (k : ℕ) where
         bound = let s = b x in let t = h.bound in rw (length-append, suc-mul) (omega arith);
       }
 
-  pub length_flatMap_among : Discrete A → (xs ys : List A) → NoRepeats xs → ((x : A) → length (f x) ≤ k)
+  pub length_flat_map_among : Discrete A → (xs ys : List A) → NoRepeats xs → ((x : A) → length (f x) ≤ k)
       → ((x : A) (z : B) → Memᴰ z (f x) → Memᴰ x ys) → length (flat_map f xs) ≤ length ys * k
-  length_flatMap_among same xs ys r b w =
+  length_flat_map_among same xs ys r b w =
       let h = having xs r b in
       le_trans h.bound (mul-le-mul_right k (no_longer same h.kept ys h.once (λ x m. let s = h.having_one x m in w x s.0 s.1)))
 
@@ -105,12 +105,12 @@ module _ {A B C : Type 0} (f : A → B → C) where
 
   pub to_pairs : {x : A} {y : B} {xs : List A} {ys : List B} → Memᴰ x xs → Memᴰ y ys → Memᴰ (f x y) (pairs xs ys)
   unfolding pairs
-  to_pairs {x} {ys = ys} m n = to_flatMap (λ x. map (f x) ys) m (Memᴰ.map (f x) n)
+  to_pairs {x} {ys = ys} m n = to_flat_map (λ x. map (f x) ys) m (Memᴰ.map (f x) n)
 
   pub pairs_of : (xs : List A) (ys : List B) {z : C} → Memᴰ z (pairs xs ys) → (x : A) × (y : B) × Memᴰ x xs × Memᴰ y ys × (f x y ≡ z)
   unfolding pairs
   pairs_of xs ys m =
-      let r = flatMap_of (λ x. map (f x) ys) xs m in
+      let r = flat_map_of (λ x. map (f x) ys) xs m in
       let q = Memᴰ.of_map (f r.0) ys r.2 in
       (r.0, q.0, r.1, q.1, q.2)
 

@@ -13,7 +13,7 @@ use Rattle.theory.specs.Needs.{Tree, empty, part, Counted}
 use Rattle.theory.specs.Derivative.{derivative}
 use Rattle.theory.specs.Automaton.{alphabet, successors, states, onward, Arc, arc, leaving, leaving_all, arcs, expressions}
 use Rattle.theory.proofs.Distinct.{at_place, distinct_no_repeats, distinct_of, to_distinct}
-use Rattle.theory.proofs.Members.{flatMap_of, to_flatMap}
+use Rattle.theory.proofs.Members.{flat_map_of, to_flat_map}
 use Rattle.theory.proofs.Derivative.{derivative_no_repeats}
 use Rattle.theory.proofs.States.{states_no_repeats, states_derived, derived_states}
 use Rattle.theory.proofs.Bounds.{alphabet_no_repeats}
@@ -35,13 +35,13 @@ no_repeats_map f (x ∷ xs) inj (g, n) = (
 )
 
 -- Members that tell which list they come from.
-no_repeats_flatMap : {A B : Type 0} (f : A → List B) (key : B → A) → ((x : A) (z : B) → Memᴰ z (f x) → key z ≡ x)
+no_repeats_flat_map : {A B : Type 0} (f : A → List B) (key : B → A) → ((x : A) (z : B) → Memᴰ z (f x) → key z ≡ x)
     → (xs : List A) → ((x : A) → Memᴰ x xs → NoRepeats (f x)) → NoRepeats xs → NoRepeats (flat_map f xs)
 unfolding flat_map
-no_repeats_flatMap f key told [] each n = tt
-no_repeats_flatMap f key told (x ∷ xs) each (g, n) =
-    no_repeats_append (f x) (flat_map f xs) (each x (Memᴰ.head refl)) (no_repeats_flatMap f key told xs (λ y h. each y (Memᴰ.tail h)) n)
-    (λ z h k. let (y, m, l) = flatMap_of f xs k in g (subst (λ w. Memᴰ w xs) (sym (told y z l) ∙ told x z h) m))
+no_repeats_flat_map f key told [] each n = tt
+no_repeats_flat_map f key told (x ∷ xs) each (g, n) =
+    no_repeats_append (f x) (flat_map f xs) (each x (Memᴰ.head refl)) (no_repeats_flat_map f key told xs (λ y h. each y (Memᴰ.tail h)) n)
+    (λ z h k. let (y, m, l) = flat_map_of f xs k in g (subst (λ w. Memᴰ w xs) (sym (told y z l) ∙ told x z h) m))
 
 -- ---- Arcs
 
@@ -62,14 +62,14 @@ module _ (s : List Expression) where
   leaving_once : (i : ℕ) (x : Expression) → Closed s x → NoRepeats (leaving s i x)
   unfolding leaving by_letter Closed
   leaving_once i x closed =
-      no_repeats_flatMap (by_letter i x) (λ (z : Arc). z.letter) (λ a z h. (told i x a z h).1) alphabet
+      no_repeats_flat_map (by_letter i x) (λ (z : Arc). z.letter) (λ a z h. (told i x a z h).1) alphabet
       (λ a h. no_repeats_map (λ m. arc i a (place same m s)) (derivative a x)
       (λ m n p q e. sym (at_place same m s ∅ (closed a h m p)) ∙ ap (λ (z : Arc). get_or s z.to ∅) e ∙ at_place same n s ∅ (closed a h n q))
       (derivative_no_repeats a x)) alphabet_no_repeats
 
   leaving_from : (i : ℕ) (x : Expression) (z : Arc) → Memᴰ z (leaving s i x) → z.from ≡ i
   unfolding leaving by_letter
-  leaving_from i x z h = let (a, _, m) = flatMap_of (by_letter i x) alphabet h in (told i x a z m).0
+  leaving_from i x z h = let (a, _, m) = flat_map_of (by_letter i x) alphabet h in (told i x a z m).0
 
   all_from : (i : ℕ) (xs : List Expression) (z : Arc) → Memᴰ z (leaving_all s i xs) → i ≤ z.from
   unfolding leaving_all
@@ -91,7 +91,7 @@ arcs_once : (e : Expression) → NoRepeats (arcs e)
 unfolding arcs Closed successors
 arcs_once e =
     all_once (states e) 0 (states e)
-    (λ x h a k m d. derived_states (onward (states_derived e x h) (to_flatMap (λ b. derivative b x) k d)))
+    (λ x h a k m d. derived_states (onward (states_derived e x h) (to_flat_map (λ b. derivative b x) k d)))
 
 tree_iff : (e x : Expression) → Memᴰ x (expressions e) ↔ Tree e x
 unfolding expressions
@@ -99,12 +99,12 @@ tree_iff e x = (forth, back)
   where
     forth : Memᴰ x (distinct same (ε ∷ flat_map parts (states e))) → Tree e x
     forth h =
-        ⊎_elim (λ q. empty q) (λ m. let (s, k, p) = flatMap_of parts (states e) m in part k p)
+        ⊎_elim (λ q. empty q) (λ m. let (s, k, p) = flat_map_of parts (states e) m in part k p)
         (Memᴰ.cases_cons (distinct_of same (ε ∷ flat_map parts (states e)) x h))
 
     back : Tree e x → Memᴰ x (distinct same (ε ∷ flat_map parts (states e)))
     back (empty q) = to_distinct same (ε ∷ flat_map parts (states e)) x (Memᴰ.head q)
-    back (part k p) = to_distinct same (ε ∷ flat_map parts (states e)) x (Memᴰ.tail (to_flatMap parts k p))
+    back (part k p) = to_distinct same (ε ∷ flat_map parts (states e)) x (Memᴰ.tail (to_flat_map parts k p))
 
 pub counted : (e : Expression) → Counted e
 unfolding expressions

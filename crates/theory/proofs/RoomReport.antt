@@ -12,12 +12,12 @@ use Rattle.theory.specs.Refusal.{refusal, lines_many}
 use Rattle.theory.specs.Grammar.{Text}
 use Rattle.theory.specs.Report.{report, totals}
 use Rattle.theory.specs.Lines.{report_line, totals_line, refusal_line, reports, last_line}
-use Rattle.theory.proofs.Members.{flatMap_append}
+use Rattle.theory.proofs.Members.{flat_map_append}
 
 pub reports_more : (texts : List Text) (t : Text) → reports (texts ++ t ∷ []) ≡ reports texts ++ report_line (report t)
 unfolding reports
 reports_more texts t =
-    flatMap_append (λ x. report_line (report x)) texts (t ∷ []) ∙ ap (λ (x : List ℕ). reports texts ++ x) (append-nil (report_line (report t)))
+    flat_map_append (λ x. report_line (report x)) texts (t ∷ []) ∙ ap (λ (x : List ℕ). reports texts ++ x) (append-nil (report_line (report t)))
 
 -- Up to 100,000.
 module _ (texts : List Text) (few : length texts ≤ most_lines) where

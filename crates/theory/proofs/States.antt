@@ -17,7 +17,7 @@ use Rattle.theory.specs.Derivative.{derivative}
 use Rattle.theory.specs.Automaton.{alphabet, successors, met, rounds, states, Derived, itself, onward}
 use Rattle.theory.proofs.Distinct.{distinct_of, to_distinct, distinct_no_repeats, distinct_append, no_longer}
 use Rattle.theory.proofs.Support.{support, stays, support_stays, support_bound}
-use Rattle.theory.proofs.Members.{to_flatMap, flatMap_of, flatMap_append}
+use Rattle.theory.proofs.Members.{to_flat_map, flat_map_of, flat_map_append}
 
 -- t is the beginning of s.
 pub record Begins (t s : List Expression) : Type 0 where
@@ -47,7 +47,7 @@ pub met_begins : (e : Expression) {t s : List Expression} → Begins t s → Beg
 unfolding met
 met_begins e {t} {s} b = record {
   rest = beyond same (e ∷ flat_map successors t) (distinct same (flat_map successors b.rest));
-  goes_on = ap (met e) b.goes_on ∙ ap (λ l. distinct same (e ∷ l)) (flatMap_append successors t b.rest)
+  goes_on = ap (met e) b.goes_on ∙ ap (λ l. distinct same (e ∷ l)) (flat_map_append successors t b.rest)
       ∙ distinct_append same (e ∷ flat_map successors t) (flat_map successors b.rest);
 }
 
@@ -56,7 +56,7 @@ met_begins e {t} {s} b = record {
 pub met_derived : (e : Expression) (s : List Expression) → ((m : Expression) → Memᴰ m s → Derived e m)
     → (m : Expression) → Memᴰ m (met e s) → Derived e m
 met_derived e s d m h =
-    ⊎_elim itself (λ t. let r = flatMap_of successors s t in Derived.onward (d r.0 r.1) r.2) (Memᴰ.cases_cons (met_of e s m h))
+    ⊎_elim itself (λ t. let r = flat_map_of successors s t in Derived.onward (d r.0 r.1) r.2) (Memᴰ.cases_cons (met_of e s m h))
 
 known : {e : Expression} {s : List Expression} → met e s ≡ s → {m : Expression} → Memᴰ m (e ∷ flat_map successors s) → Memᴰ m s
 known {e} {s} c {m} h = subst (λ t. Memᴰ m t) c (to_met e s m h)
@@ -64,11 +64,11 @@ known {e} {s} c {m} h = subst (λ t. Memᴰ m t) c (to_met e s m h)
 -- Where a round brings nothing new, all partial derivatives are there.
 pub derived_met : {e : Expression} {s : List Expression} → met e s ≡ s → {m : Expression} → Derived e m → Memᴰ m s
 derived_met c (itself h) = known c (Memᴰ.head h)
-derived_met c (Derived.onward d h) = known c (Memᴰ.tail (to_flatMap successors (derived_met c d) h))
+derived_met c (Derived.onward d h) = known c (Memᴰ.tail (to_flat_map successors (derived_met c d) h))
 
 pub successors_of : (x : Expression) {m : Expression} → Memᴰ m (successors x) → (a : ℕ) × Memᴰ m (derivative a x)
 unfolding successors
-successors_of x h = let r = flatMap_of (λ a. derivative a x) alphabet h in (r.0, r.2)
+successors_of x h = let r = flat_map_of (λ a. derivative a x) alphabet h in (r.0, r.2)
 
 pub derived_support : {e m : Expression} → Derived e m → Memᴰ m (e ∷ support e)
 derived_support (itself h) = Memᴰ.head h

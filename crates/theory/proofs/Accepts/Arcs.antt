@@ -14,8 +14,8 @@ use Rattle.theory.specs.Derivative.{derivative}
 use Rattle.theory.specs.Automaton.{ascending, alphabet, successors, states, Derived, Arc, arc, leaving, leaving_all, arcs}
 use Rattle.theory.specs.Limit.{last_letter}
 use Rattle.theory.specs.Needs.{Triple}
-use Rattle.theory.proofs.Distinct.{getD_member, place_below, at_place, place_of}
-use Rattle.theory.proofs.Members.{to_flatMap, flatMap_of}
+use Rattle.theory.proofs.Distinct.{get_or_member, place_below, at_place, place_of}
+use Rattle.theory.proofs.Members.{to_flat_map, flat_map_of}
 use Rattle.theory.proofs.States.{states_no_repeats, states_derived, derived_states, derived_support}
 use Rattle.theory.proofs.Bounds.Letters.{derivative_letter, support_letters}
 use Rattle.theory.proofs.WellFormed.{Lettered}
@@ -52,7 +52,7 @@ pub record Leaves (s : List Expression) (i : ℕ) (x : Expression) (z : Arc) : T
 leaving_of : (s : List Expression) (i : ℕ) (x : Expression) {z : Arc} → Memᴰ z (leaving s i x) → Leaves s i x z
 unfolding leaving
 leaving_of s i x h =
-    let r = flatMap_of (λ a. map (λ m. arc i a (place same m s)) (derivative a x)) alphabet h in
+    let r = flat_map_of (λ a. map (λ m. arc i a (place same m s)) (derivative a x)) alphabet h in
     let q = Memᴰ.of_map (λ m. arc i r.0 (place same m s)) (derivative r.0 x) r.2 in
     subst (Leaves s i x) q.2 (record { from = refl; letter = r.1; member = q.0; derived = q.1; to = refl })
 
@@ -60,7 +60,7 @@ to_leaving : (s : List Expression) (i : ℕ) (x : Expression) {a : ℕ} {m : Exp
     → Memᴰ (arc i a (place same m s)) (leaving s i x)
 unfolding leaving
 to_leaving s i x {a} h k =
-    to_flatMap (λ b. map (λ m. arc i b (place same m s)) (derivative b x)) h (Memᴰ.map (λ m. arc i a (place same m s)) k)
+    to_flat_map (λ b. map (λ m. arc i b (place same m s)) (derivative b x)) h (Memᴰ.map (λ m. arc i a (place same m s)) k)
 
 all_leaving_of : (s : List Expression) (i : ℕ) (xs : List Expression) {z : Arc} → Memᴰ z (leaving_all s i xs)
     → (k : ℕ) × (k < length xs) × Memᴰ z (leaving s (i + k) (get_or xs k ∅))
@@ -104,7 +104,7 @@ module _ (e : Expression) (i : ℕ) (l : i < length (states e)) (a : ℕ) (h : M
   unfolding successors
   member_state =
       let x = get_or (states e) i ∅ in
-      derived_states (Derived.onward (states_derived e x (getD_member (states e) i ∅ l)) (to_flatMap (λ b. derivative b x) h d))
+      derived_states (Derived.onward (states_derived e x (get_or_member (states e) i ∅ l)) (to_flat_map (λ b. derivative b x) h d))
 
   -- And there is an arc to each.
   pub to_arcs : Memᴰ (arc i a (place same m (states e))) (arcs e)
@@ -116,7 +116,7 @@ pub in_alphabet : (e : Expression) → Lettered e → (i : ℕ) → i < length (
     → Memᴰ m (derivative a (get_or (states e) i ∅)) → Memᴰ a alphabet
 in_alphabet e good i l a m h =
     let x = get_or (states e) i ∅ in
-    (alphabet_iff a).1 (good a (support_letters e x (derived_support (states_derived e x (getD_member (states e) i ∅ l))) a (derivative_letter a x m h)))
+    (alphabet_iff a).1 (good a (support_letters e x (derived_support (states_derived e x (get_or_member (states e) i ∅ l))) a (derivative_letter a x m h)))
 
 -- Arcs end at states, and their letters are of the alphabet.
 pub arcs_end : (e : Expression) {z : Arc} → Memᴰ z (arcs e)

@@ -15,7 +15,7 @@ use Rattle.theory.specs.Distinct.{Within}
 use Rattle.theory.proofs.Pair.{pair_left, pair_right, pair_parts}
 use Rattle.theory.proofs.Derivative.{joined_cases}
 use Rattle.theory.proofs.Rows.Trees.{parts_length}
-use Rattle.theory.proofs.Members.{length_flatMap, to_flatMap}
+use Rattle.theory.proofs.Members.{length_flat_map, to_flat_map}
 use Rattle.theory.proofs.Support.{support, support_bound}
 use Rattle.theory.proofs.Support.Inherited.{Inherited, inherited}
 
@@ -91,10 +91,10 @@ parts_cover e m h z k = go (inherited AllHeld held_inherited e m h z k)
   where
     go : Held e z → Memᴰ z (cover e)
     go (empty t) = cover_ε e z t
-    go (member p t u) = Memᴰ.tail (to_flatMap (λ p. p ∷ support p) t u)
+    go (member p t u) = Memᴰ.tail (to_flat_map (λ p. p ∷ support p) t u)
 
 pub cover_bound : (e : Expression) → length (cover e) ≤ entries e * 2 ^ length (letters e) + 1
 unfolding cover
 cover_bound e =
-    let l = length_flatMap (λ p. p ∷ support p) (2 ^ length (letters e)) (parts e) (λ p h. le_trans (support_bound p) (pow_mono (part_letters e p h))) in
+    let l = length_flat_map (λ p. p ∷ support p) (2 ^ length (letters e)) (parts e) (λ p h. le_trans (support_bound p) (pow_mono (part_letters e p h))) in
     rw (← parts_length e) (omega arith)
