@@ -35,6 +35,7 @@ pub fn read(text: &[u8], kind: &mut [u8], left: &mut [u16], right: &mut [u16]) -
 }
 
 // 01: "Reader: 1, 12, then the one of 13, 14, 15 with the earliest byte".
+#[tactic(auto, using(crate::proofs::Whole::due_long, crate::proofs::Whole::both_equal))]
 fn limited(text: &[u8], kind: &mut [u8], left: &mut [u16], right: &mut [u16]) -> Found
     ensures { Limited text.now (table kind.old left.old right.old) result
         (table kind.new left.new right.new) }

@@ -33,6 +33,7 @@ fn children_smaller(i: usize, w: Row) -> bool
 }
 
 // The number of the refusal of entry i of `entries`, or 0.
+#[tactic(auto, unfolding(theory::specs::Table::entry_fault))]
 fn fault(entries: usize, i: usize, w: Row) -> u8
     ensures { result ≡ entry_fault entries i (as_row w) }
 {

@@ -16,6 +16,7 @@ pub enum Checked {
     Refused { number: u8, place: usize },
 }
 
+#[tactic(auto, using(crate::proofs::Scanning::scanned_refused, theory::proofs::TableRefusal::refused_long))]
 pub fn check(kind: &[u8], left: &[u16], right: &[u16]) -> Checked
     ensures { Scanned result (table_refusal (table kind.now left.now right.now)) }
 {

@@ -38,6 +38,7 @@ fn times_named(kind: &[u8], left: &[u16], right: &[u16], i: usize) -> usize
 }
 
 // 01: "an entry other than the last not named exactly once; the smallest such".
+#[tactic(auto, using(crate::proofs::Scanning::scan_found, crate::proofs::Scanning::scan_over, theory::proofs::Times::fault_found, theory::proofs::Times::fault_none))]
 pub fn naming_checked(kind: &[u8], left: &[u16], right: &[u16]) -> super::Checked
     requires { (length left.now ≡ length kind.now) × (length right.now ≡ length kind.now) }
     ensures { Scanned result (first_fault (naming_fault (table kind.now left.now right.now))

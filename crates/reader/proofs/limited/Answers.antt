@@ -1,19 +1,13 @@
 -- The columns are cleared, and then 1, 12 or the reading of the text is due.
 use Rattle.std.proofs.Common.{arith}
 use Rattle.theory.specs.Table.{table}
-use Rattle.reader.proofs.Whole.{due_differ, due_long, limited, both_equal, not_both}
+use Rattle.reader.proofs.Whole.{due_differ, limited, both_equal, not_both}
 use Rattle.reader.proofs.limited.Goals as goal
 
 pub returns-then-left-room : goal.returns-then-left-room
 returns-then-left-room c =
     let zeros = c.clear_table.new in
     due_differ _ _ (table zeros.kind zeros.left zeros.right) c.clear_table.ensures (not_both _ _ _ c.if-left-room.true)
-
-pub returns-then-text-gt-TEXT : goal.returns-then-text-gt-TEXT
-returns-then-text-gt-TEXT c =
-    let zeros = c.clear_table.new in
-    let equal = both_equal _ _ _ c.if-left-room.false in
-    due_long _ _ (table zeros.kind zeros.left zeros.right) c.clear_table.ensures equal.0 equal.1 c.if-text-gt-TEXT.true
 
 pub returns : goal.returns
 returns c =

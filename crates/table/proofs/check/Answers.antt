@@ -1,7 +1,7 @@
 -- 01's order of the refusals, a law for each way out.
 use Rattle.std.proofs.Common.{sym, arith}
-use Rattle.theory.specs.Refusal.{columns_differ, table_empty, table_long}
-use Rattle.theory.proofs.TableRefusal.{refused_differ, refused_empty, refused_long, refused_later}
+use Rattle.theory.specs.Refusal.{columns_differ, table_empty}
+use Rattle.theory.proofs.TableRefusal.{refused_differ, refused_empty, refused_later}
 use Rattle.table.proofs.Scanning.{scanned_for, scanned_refused, first_stands, second_stands}
 use Rattle.table.proofs.check.Goals as goal
 use Rattle.table.proofs.check.Goals.{then-left-kind-via-then-left-kind, then-left-kind-via-else-left-kind+then-right-kind}
@@ -18,17 +18,12 @@ pub returns-then-kind-eq0 : goal.returns-then-kind-eq0
 returns-then-kind-eq0 c =
     scanned_refused table_empty 0 (λ z. omega arith) (refused_empty _ (c.if-left-kind.false, c.if-right-kind.false) c.if-kind-eq0.true)
 
-pub returns-then-kind-gt-ENTRIES : goal.returns-then-kind-gt-ENTRIES
-returns-then-kind-gt-ENTRIES c =
-    scanned_refused table_long 0 (λ z. omega arith)
-    (refused_long _ (c.if-left-kind.false, c.if-right-kind.false) c.if-kind-eq0.false c.if-kind-gt-ENTRIES.true)
-
 pub returns-in-Refused : goal.returns-in-Refused
 returns-in-Refused c =
-    scanned_for (sym (refused_later _ (c.if-left-kind.false, c.if-right-kind.false) c.if-kind-eq0.false c.if-kind-gt-ENTRIES.false))
+    scanned_for (sym (refused_later _ (c.if-left-kind.false, c.if-right-kind.false) c.if-kind-eq0.false (omega arith)))
     (first_stands _ _ _ c.entries_checked-scanned.ensures c.in-Refused.is)
 
 pub returns-in-Fine : goal.returns-in-Fine
 returns-in-Fine c =
-    scanned_for (sym (refused_later _ (c.if-left-kind.false, c.if-right-kind.false) c.if-kind-eq0.false c.if-kind-gt-ENTRIES.false))
+    scanned_for (sym (refused_later _ (c.if-left-kind.false, c.if-right-kind.false) c.if-kind-eq0.false (omega arith)))
     (second_stands c.entries_checked-scanned.ensures c.in-Fine.is c.naming_checked.ensures)
