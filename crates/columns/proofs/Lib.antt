@@ -1,3 +1,2 @@
-mod Clearing
-mod Signs
 pub mod ByteAt
+pub mod Children

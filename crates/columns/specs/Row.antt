@@ -2,9 +2,9 @@
 use Rattle.std.specs.Prelude.{ℕ, List, [], ◌∷◌, length}
 use Rattle.theory.specs.Column.{zeros}
 use Rattle.theory.specs.Table.{Table, table, Row as Entry}
-use Rattle.columns.specs.declared.Row.{Row}
-use Rattle.columns.specs.declared.Children.{Children}
-use Rattle.columns.specs.declared.Children.TheVariants.{Nothing, One, Two}
+use Rattle.columns.specs.declared.row.Row.{Row}
+use Rattle.columns.specs.declared.row.Children.{Children}
+use Rattle.columns.specs.declared.row.Children.TheVariants.{Nothing, One, Two}
 
 abbrev pub as_row : Row → Entry
 as_row w = record { kind = w.kind; left = w.left; right = w.right }

@@ -1,5 +1,5 @@
 -- The room report by the number of its texts: up to 100,000 it ends with the totals, and beyond them with 22.
-use Prim.Native.Nat.{ℕ, ◌+◌, ◌≤◌, ◌<◌}
+use Prim.Native.Nat.{ℕ, ◌≤◌, ◌<◌}
 use native.Mathlib.Omega.{arith}
 use borrow.Author.Tests.{lt-ltb, le-ltb}
 use mathlib.Core.Path.{◌≡◌, sym, ap, ◌∙◌}

@@ -14,7 +14,7 @@ use borrow.Author.Tests.{eqb-true, eqb-false}
 use Rattle.theory.specs.Expression.{Expression, same, letters}
 use Rattle.theory.specs.Distinct.{distinct, beyond, without, NoRepeats, Within}
 use Rattle.theory.specs.Derivative.{derivative}
-use Rattle.theory.specs.Automaton.{alphabet, successors, met, rounds, states, Derived, itself, onward}
+use Rattle.theory.specs.Automaton.{alphabet, successors, met, rounds, states, Derived, itself}
 use Rattle.theory.proofs.Distinct.{distinct_of, to_distinct, distinct_no_repeats, distinct_append, no_longer}
 use Rattle.theory.proofs.Support.{support, stays, support_stays, support_bound}
 use Rattle.theory.proofs.Members.{to_flat_map, flat_map_of, flat_map_append}

@@ -8,9 +8,11 @@ pub mod Language
 pub mod Derivative
 pub mod Automaton
 pub mod Needs
+pub mod Meant
 pub mod Meetings
 pub mod Below
 pub mod Arcs
+pub mod Stated
 pub mod Table
 pub mod Grammar
 pub mod Scan

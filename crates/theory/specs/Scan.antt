@@ -1,6 +1,6 @@
 -- The executable reading of a text, a byte at a time with the open parentheses on a stack. The law `scan_reads` says that it is
 -- the reading of `Grammar`.
-use Rattle.std.specs.Prelude.{ℕ, suc, ◌+◌, true, false, cond, List, [], ◌∷◌, length, eqb, ltb}
+use Rattle.std.specs.Prelude.{ℕ, suc, true, false, cond, List, [], ◌∷◌, length, eqb, ltb}
 use Rattle.std.proofs.Math.Option.{Option, none, some}
 use Rattle.theory.specs.Expression.{Expression, Sign, ∅, ε, letter, binary, star, union, concatenation, shuffle}
 use Rattle.theory.specs.Limit.{most_open}
