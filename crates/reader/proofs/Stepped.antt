@@ -1,4 +1,4 @@
--- What a cursor's step says of the text: the end, or the byte that stands there.
+-- The place before a cursor, and the bytes that are no sign.
 use Prim.Native.Nat.{ℕ, ◌-◌}
 use native.Mathlib.Omega.{arith}
 use mathlib.Core.Path.{◌≡◌}

@@ -30,7 +30,7 @@ use Rattle.reader.specs.Found.{Found, laid, Entry, start, begins, Answered, Unst
 use Rattle.columns.specs.Row.{cleared}
 use Rattle.reader.specs.Whole.{at_start, Beginning, Begun, WholeRead, Limited}
 use Rattle.reader.proofs.Laid.{laid_zeros}
-use Rattle.columns.proofs.ByteAt.{ByteAt}
+use Rattle.columns.proofs.ByteAt.{ByteAt, step_byte, step_end}
 use Rattle.reader.proofs.Stepped.{byte_before}
 
 -- ---- The beginning
@@ -105,6 +105,8 @@ module _ (room : ℕ) (text : Text) (t : Table) where
     whole_ended l =
         subst (λ (r' : Found). WholeRead room text t r' t') (sym q)
         (found.expression, found.reads ∙ at_end room text v.1.at v.0 found.stand l ∙ found.whole, found.counted, found.laid_out)
+
+pub ruleset beginning_laws = (step_byte, step_end, begun_empty, begun_∅, begun_expression)
 
 -- ---- The columns
 

@@ -20,8 +20,7 @@ pub fn read(text: &[u8], table: &mut TableMut<'_>) -> Result<usize, Refusal>
     ensures same { SameTable table.old table.new }
     ensures read { Read text.now (lent_table table.old) (answer result) (lent_table table.new) }
 {
-    let found = limited(text, table);
-    match found {
+    match limited(text, table) {
         Ok((entries, _)) => Ok(entries),
         Err(refusal) => {
             table.clear();

@@ -16,6 +16,7 @@ use theory::refusal::{Cause, Refusal};
 
 // An operand and the stars after it.
 #[cycle(expression_operand)]
+#[tactic(auto, using(crate::proofs::Answers::after_positive))]
 fn expression(text: &[u8], at: Point, table: &mut TableMut<'_>) -> Found
     requires { MayBegin at.room text.now (begins at (lent_table table.old)) }
     ensures same { SameTable table.old table.new }
@@ -32,6 +33,7 @@ fn expression(text: &[u8], at: Point, table: &mut TableMut<'_>) -> Found
 
 // `1`, a letter, or two expressions with their sign in parentheses.
 #[cycle(expression_operand)]
+#[tactic(auto, using(crate::proofs::Answers::after_positive))]
 fn operand(text: &[u8], at: Point, table: &mut TableMut<'_>) -> Found
     requires { MayBegin at.room text.now (begins at (lent_table table.old)) }
     ensures same { SameTable table.old table.new }
@@ -82,6 +84,7 @@ fn operand(text: &[u8], at: Point, table: &mut TableMut<'_>) -> Found
 }
 
 // 01: "`0` alone is the empty language." Any other text begins with an expression.
+#[tactic(auto, using(crate::proofs::Whole::beginning_laws))]
 fn beginning(text: &[u8], at: Point, table: &mut TableMut<'_>) -> Found
     requires { Room at.room (lent_table table.old) × (at ≡ at_start at.room) }
     ensures same { SameTable table.old table.new }

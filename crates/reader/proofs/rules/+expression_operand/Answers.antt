@@ -1,19 +1,12 @@
--- `expression`: an operand and the stars after it. `operand`: `1`, a letter, or two expressions with their sign in parentheses.
-use Rattle.std.proofs.Common.{rules, refl, arith}
+-- `operand`: `1`, a letter, or two expressions with their sign in parentheses.
+use Rattle.std.proofs.Common.{refl, arith}
 use Rattle.theory.specs.declared.refusal.Cause.TheVariants.{TooDeep}
 use Rattle.columns.proofs.ByteAt.{step_end, step_byte}
 use Rattle.columns.specs.Table.{lent_table}
 use Rattle.reader.specs.Found.{begins}
-use Rattle.reader.proofs.Answers.{end_answers, leaf_refused, leaf_made, after_positive}
+use Rattle.reader.proofs.Answers.{end_answers, leaf_refused, leaf_made}
 use Rattle.reader.proofs.Pair.{inside, deep_answers, left, left_refused, signed_on, sign_refused, right_refused, pair_answers}
 use Rattle.reader.proofs.rules.+expression_operand.Goals as goal
-
--- ---- `expression`
-
-pub expression-stars-requires : goal.expression-stars-requires
-expression-stars-requires t c = let x = c.in-Ok.ensures.answered in (search rules, after_positive _ _ x, x.fits)
-
--- ---- `operand`
 
 pub operand-returns-in_default-clause-answered : goal.operand-returns-in_default-clause-answered
 operand-returns-in_default-clause-answered t c =
@@ -56,12 +49,6 @@ operand-returns-in_default-y-clause-answered t c =
     let x = c.in-Ok.ensures in
     let half = signed_on (left (inside c.requires byte c.if-byte-ne40.false (omega arith)) x.answered x.unstarred) c.in-Ok-sign.read c.in-Ok-sign.ensures in
     right_refused c.in-Ok-sign.read.0 half (lent_table c.expression-y.new.table) c.expression-y.result c.in_default-y.is c.expression-y.ensures.answered
-
-pub operand-overflow_sub-row : goal.operand-overflow_sub-row
-operand-overflow_sub-row t c = after_positive _ _ c.in-Ok.ensures.answered
-
-pub operand-overflow_sub-row-2 : goal.operand-overflow_sub-row-2
-operand-overflow_sub-row-2 t c = after_positive _ _ c.in-Ok-y.ensures.answered
 
 pub operand-returns-clause-answered : goal.operand-returns-clause-answered
 operand-returns-clause-answered t c =
