@@ -46,7 +46,8 @@ module _ {room : ℕ} {text : Text} {s : Start} (b : MayBegin room text s) {byte
   pub deep_answers : (r : Refusal) → stated r ≡ refusal too_deep s.at → most_open ≤ s.depth → Answered room text s (Err r) s.columns
   unfolding open_at
   deep_answers r q d fs e =
-      rw q (at_deep room text s.at s.made (before fs) i.inside (before (opened ∷ fs)) (before_opening fs (get_or text s.at 0) (i.here ∙ o)) (omega arith))
+      rw q
+      (at_deep room text s.at s.made (before fs) i.inside (before (opened ∷ fs)) (before_opening fs (get_or text s.at 0) (i.here ∙ o)) (omega arith))
 
   pub inside : s.depth < most_open → Inside room text s cursor.at
   unfolding open_at makes_entry

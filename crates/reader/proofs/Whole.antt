@@ -35,8 +35,8 @@ use Rattle.reader.proofs.Stepped.{byte_before}
 
 -- ---- The beginning
 
-pub begun_empty : (room : ℕ) (text : Text) (at : Point) → at ≡ at_start room → length text ≤ at.cursor.at → (r : Refusal) → stated r ≡ refusal not_grammar 0
-    → scan room text ≡ refused (stated r)
+pub begun_empty : (room : ℕ) (text : Text) (at : Point) → at ≡ at_start room → length text ≤ at.cursor.at
+    → (r : Refusal) → stated r ≡ refusal not_grammar 0 → scan room text ≡ refused (stated r)
 unfolding scan finish
 begun_empty room text at z l r e = rw e (at_end room text 0 0 (before []) (subst (λ (p : Point). length text ≤ p.cursor.at) z l))
 

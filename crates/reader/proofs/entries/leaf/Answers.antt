@@ -12,7 +12,8 @@ returns-then-byte-eq49 c = (ε, leaf_ε _ c.if-byte-eq49.true, λ made. rw c.num
 pub returns-then-is_ascii_alphabetic : goal.returns-then-is_ascii_alphabetic
 unfolding rows is_letter
 returns-then-is_ascii_alphabetic c =
-    (letter c.args.byte, leaf_letter _ (sym c.is_ascii_alphabetic.ensures.value ∙ c.if-is_ascii_alphabetic.true), λ made. rw (c.number-then-is_ascii_alphabetic.ensures, c.from.ensures))
+    let a_letter = sym c.is_ascii_alphabetic.ensures.value ∙ c.if-is_ascii_alphabetic.true in
+    (letter c.args.byte, leaf_letter _ a_letter, λ made. rw (c.number-then-is_ascii_alphabetic.ensures, c.from.ensures))
 
 pub returns : goal.returns
 unfolding is_letter
