@@ -12,8 +12,8 @@ use Rattle.theory.specs.Expression.{Expression, same}
 use Rattle.theory.specs.Table.{Table, trees}
 use Rattle.theory.proofs.Distinct.{no_longer}
 use Rattle.theory.proofs.Trees.{trees_length}
-use Rattle.derive.specs.declared.rows.Interned.{Interned}
-use Rattle.derive.specs.declared.rows.Interned.TheVariants.{At, Full}
+use Rattle.std.specs.Prelude.{Result, Ok, Err}
+use Rattle.derive.specs.declared.rows.NoRoom.{NoRoom}
 use Rattle.derive.specs.Rows.{Fitted, Came, Held, Short, Answered}
 use Rattle.derive.proofs.Growing.{grown_none, grown_trans, grown_within}
 
@@ -59,15 +59,15 @@ module _ {t t' t'' : Table} {n n' room : ℕ} {Need : Expression → Type 0} (c 
 
 -- ---- Answers
 
-pub answered_as : {t t' : Table} {n room : ℕ} {Need : Expression → Type 0} {e : Expression} {r r' : Interned} → r ≡ r' → Answered t n room Need e r t'
-    → Answered t n room Need e r' t'
-answered_as {t} {t'} {n} {room} {Need} {e} q a = subst (λ s. Answered t n room Need e s t') q a
+pub answered_as : {t t' : Table} {n n' room : ℕ} {Need : Expression → Type 0} {e : Expression} {r r' : Result ℕ NoRoom} → r ≡ r'
+    → Answered t n room Need e r t' n' → Answered t n room Need e r' t' n'
+answered_as {t} {t'} {n} {n'} {room} {Need} {e} q a = subst (λ s. Answered t n room Need e s t' n') q a
 
 -- What came first and what is then answered, each for what is needed in the end.
-pub answered_then : {t t' t'' : Table} {n n' room : ℕ} {Need Need' : Expression → Type 0} {e : Expression} {r : Interned} → Came t n room Need t' n'
-    → ((z : Expression) → Need' z → Need z) → Answered t' n' room Need' e r t'' → Answered t n room Need e r t''
-answered_then {t'' = t''} {room = room} {e = e} {r = At i n''} c f a = record { answer = held_then c (held_for (λ z p. inr (f z p)) a.answer) }
-answered_then {r = Full} c f a = record { answer = short_then c (short_for (λ z p. inr (f z p)) a.answer) }
+pub answered_then : {t t' t'' : Table} {n n' n'' room : ℕ} {Need Need' : Expression → Type 0} {e : Expression} {r : Result ℕ NoRoom}
+    → Came t n room Need t' n' → ((z : Expression) → Need' z → Need z) → Answered t' n' room Need' e r t'' n'' → Answered t n room Need e r t'' n''
+answered_then {t'' = t''} {room = room} {e = e} {r = Ok i} c f a = record { answer = held_then c (held_for (λ z p. inr (f z p)) a.answer) }
+answered_then {r = Err x} c f a = record { answer = short_then c (short_for (λ z p. inr (f z p)) a.answer) }
 
 -- ---- Counting
 

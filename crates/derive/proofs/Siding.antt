@@ -14,10 +14,10 @@ use Rattle.theory.proofs.Meaning.{Numbered, numbered, meaning_is, kind_is}
 use Rattle.theory.proofs.Members.{map_same}
 use Rattle.theory.proofs.Rooted.{Rooted, ∅_row, ε_row, letter_row, sign_row, star_row, rooted, sign_rooted}
 use Rattle.derive.specs.declared.sides.Join.TheVariants.{Followed}
+use Rattle.std.specs.Prelude.{Option, Some, None}
 use Rattle.derive.specs.declared.sides.Side.{Side}
-use Rattle.derive.specs.declared.sides.Side.TheVariants.{Nothing, Of}
 use Rattle.derive.specs.Rows.{Rows, SoundTo}
-use Rattle.derive.specs.Sides.{WithinRow, beside, side_list, pick, left_of, right_of, left_side, right_side}
+use Rattle.derive.specs.Sides.{WithinRow, beside, side_list, side_of, pick, left_of, right_of, left_side, right_side}
 use Rattle.derive.proofs.Growing.{sound_to_less}
 use Rattle.derive.proofs.Joining.{beside_literal, beside_tells}
 use Rattle.derive.proofs.Listing.{map_no_repeats}
@@ -40,10 +40,10 @@ module _ (t : Table) (i : ℕ) {w : Row} (e : w ≡ row t i) where
 
   -- No sign and no star.
   module _ (d : (s : Sign) → w.kind ≡ kind_of_sign s → ⊥) where
-    pub left_none : (w.kind ≡ Kind.star → ⊥) → Nothing ≡ left_side t i
+    pub left_none : (w.kind ≡ Kind.star → ⊥) → None ≡ left_side t i
     left_none n = go (meaning w.kind) (numbered w.kind)
       where
-        go : (m : Meaning) → Numbered m w.kind → Nothing ≡ left_side t i
+        go : (m : Meaning) → Numbered m w.kind → None ≡ left_side t i
         go ∅_kind h = left_as ∅_kind h
         go ε_kind h = left_as ε_kind h
         go letter_kind h = left_as letter_kind h
@@ -51,10 +51,10 @@ module _ (t : Table) (i : ℕ) {w : Row} (e : w ≡ row t i) where
         go star_kind h = absurd (n h)
         go unknown_kind h = left_as unknown_kind h
 
-    pub right_none : Nothing ≡ right_side t i
+    pub right_none : None ≡ right_side t i
     right_none = go (meaning w.kind) (numbered w.kind)
       where
-        go : (m : Meaning) → Numbered m w.kind → Nothing ≡ right_side t i
+        go : (m : Meaning) → Numbered m w.kind → None ≡ right_side t i
         go ∅_kind h = right_as ∅_kind h
         go ε_kind h = right_as ε_kind h
         go letter_kind h = right_as letter_kind h
@@ -69,35 +69,35 @@ module _ (t : Table) (i : ℕ) {w : Row} (e : w ≡ row t i) where
 
   -- The right part's list follows where the left part has the empty word.
   pub right_after : (b : Bool) → b ≡ empty_word (tree_at t w.left) → w.kind ≡ kind_of_sign concatenation
-      → pick b (Of w.right 0 Followed) Nothing ≡ right_side t i
-  right_after b q h = ap (λ (c : Bool). pick c (Of w.right 0 Followed) Nothing) q ∙ right_as (sign_kind concatenation) h
+      → pick b (side_of w.right 0 Followed) None ≡ right_side t i
+  right_after b q h = ap (λ (c : Bool). pick c (side_of w.right 0 Followed) None) q ∙ right_as (sign_kind concatenation) h
 
 -- A concatenation's right side, where the left part has the empty word and where it has not: `right_side` names both in its attribute.
 module _ (t : Table) (i : ℕ) where
-  pub right_follows : (row t i).kind ≡ Kind.concatenation → empty_word (tree_at t (row t i).left) ≡ true → right_side t i ≡ Of (row t i).right 0 Followed
+  pub right_follows : (row t i).kind ≡ Kind.concatenation → empty_word (tree_at t (row t i).left) ≡ true → right_side t i ≡ side_of (row t i).right 0 Followed
   unfolding kind_of_sign
   right_follows k e = sym (right_after t i refl true (sym e) k)
 
-  pub right_lacks : (row t i).kind ≡ Kind.concatenation → empty_word (tree_at t (row t i).left) ≡ false → right_side t i ≡ Nothing
+  pub right_lacks : (row t i).kind ≡ Kind.concatenation → empty_word (tree_at t (row t i).left) ≡ false → right_side t i ≡ None
   unfolding kind_of_sign
   right_lacks k e = sym (right_after t i refl false (sym e) k)
 
 -- ---- The lists
 
 -- A side without a join is the child's list.
-plain : {t : Table} {n : ℕ} → Rows t n → (a c : ℕ) → side_list a t (Of c 0 Followed) ≡ derivative a (tree_at t c)
+plain : {t : Table} {n : ℕ} → Rows t n → (a c : ℕ) → side_list a t (side_of c 0 Followed) ≡ derivative a (tree_at t c)
 plain {t} h a c =
     map_same (beside Followed (tree_at t 0)) (λ m. ap (λ o. beside Followed o m) h.literal ∙ beside_literal Followed m) (derivative a (tree_at t c))
 
-pub side_no_repeats : (a : ℕ) (t : Table) (side : Side) → NoRepeats (side_list a t side)
-side_no_repeats a t Nothing = tt
-side_no_repeats a t (Of child other join) =
-    map_no_repeats (beside join (tree_at t other)) (beside_tells join (tree_at t other)) (derivative a (tree_at t child))
-    (derivative_no_repeats a (tree_at t child))
+pub side_no_repeats : (a : ℕ) (t : Table) (side : Option Side) → NoRepeats (side_list a t side)
+side_no_repeats a t None = tt
+side_no_repeats a t (Some s) =
+    map_no_repeats (beside s.join (tree_at t s.other)) (beside_tells s.join (tree_at t s.other)) (derivative a (tree_at t s.child))
+    (derivative_no_repeats a (tree_at t s.child))
 
 module _ {t : Table} {n : ℕ} (h : Rows t n) (a i : ℕ) where
   -- The list of a row is that of these two sides.
-  abbrev Lists : Side → Side → Type 0
+  abbrev Lists : Option Side → Option Side → Type 0
   Lists b c = derivative a (tree_at t i) ≡ distinct same (side_list a t b ++ side_list a t c)
 
   -- A sign's list, by the sign.
@@ -110,12 +110,12 @@ module _ {t : Table} {n : ℕ} (h : Rows t n) (a i : ℕ) where
       ms : List Expression
       ms = map (λ z. joined concatenation z (tree_at t r)) (derivative a (tree_at t l))
 
-      go : (b : Bool) → distinct same (ms ++ cond b (derivative a (tree_at t r)) []) ≡ distinct same (ms ++ side_list a t (pick b (Of r 0 Followed) Nothing))
+      go : (b : Bool) → distinct same (ms ++ cond b (derivative a (tree_at t r)) []) ≡ distinct same (ms ++ side_list a t (pick b (side_of r 0 Followed) None))
       go true = ap (λ c. distinct same (ms ++ c)) (sym (plain h a r))
       go false = refl
   sign_lists shuffle l r e = e
 
-  star_lists : (l : ℕ) → tree_at t i ≡ star (tree_at t l) → Lists (Of l i Followed) Nothing
+  star_lists : (l : ℕ) → tree_at t i ≡ star (tree_at t l) → Lists (side_of l i Followed) None
   unfolding gathered
   star_lists l e =
       ap (derivative a) e ∙ derivative_gathered a (star (tree_at t l))

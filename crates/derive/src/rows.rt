@@ -6,8 +6,7 @@ ghost use Rattle.theory.specs.Table.{tree_at};
 ghost use Rattle.columns.specs.Table.{read_table};
 ghost use Rattle.derive.specs.Rows.{rows_table, SameRows, Fitted, SoundTo, Takes};
 
-use super::intern::pair;
-use columns::row::Row;
+use columns::row::Children;
 use columns::table::Table;
 use theory::kind::{Kind, Sign};
 
@@ -45,23 +44,16 @@ impl Rows<'_> {
         ensures takes { Takes (rows_table self.old) self.old.used self.old.room
             (tree_at (read_table given.entry) e) result (rows_table self.new) self.new.used }
     {
-        let w = given.row(e);
-        match Kind::of(w.kind) {
-            Some(Kind::Sign(sign)) => {
-                let x = self.take_over(given, w.left as usize)?;
-                let y = self.take_over(given, w.right as usize)?;
-                self.intern(pair(sign, x, y))
+        let mut w = given.row(e);
+        match w.children() {
+            Children::Nothing => {}
+            Children::One { child } => w.left = self.take_over(given, child)? as u16,
+            Children::Two { left, right } => {
+                w.left = self.take_over(given, left)? as u16;
+                w.right = self.take_over(given, right)? as u16;
             }
-            Some(Kind::Star) => {
-                let x = self.take_over(given, w.left as usize)?;
-                self.intern(Row {
-                    kind: Kind::Star.number(),
-                    left: x as u16,
-                    right: 0,
-                })
-            }
-            _ => self.intern(w),
         }
+        self.intern(w)
     }
 }
 
@@ -71,14 +63,17 @@ pub fn empty_word(table: Table<'_>, row: usize) -> bool
     ensures { result ≡ empty_word (tree_at (read_table table.entry) row) }
 {
     let w = table.row(row);
-    match Kind::of(w.kind) {
-        Some(Kind::Sign(sign)) => {
+    let Some(kind) = Kind::of(w.kind) else {
+        return false;
+    };
+    match kind {
+        Kind::EmptyWord => true,
+        Kind::Sign(sign) => {
             let a = empty_word(table, w.left as usize);
             let b = empty_word(table, w.right as usize);
             if sign == Sign::Union { a | b } else { a & b }
         }
-        Some(Kind::EmptyWord) => true,
-        Some(Kind::Star) => true,
+        Kind::Star => true,
         _ => false,
     }
 }

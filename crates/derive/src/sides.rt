@@ -36,11 +36,13 @@ pub fn left_side(table: Table<'_>, row: usize) -> Option<Side>
 {
     let w = table.row(row);
     let child = w.left as usize;
-    let other = w.right as usize;
+    let right = w.right as usize;
     let (other, join) = match Kind::of(w.kind)? {
-        Kind::Sign(Sign::Union) => (0, Join::Followed),
-        Kind::Sign(Sign::Concatenation) => (other, Join::Followed),
-        Kind::Sign(Sign::Shuffle) => (other, Join::Shuffled),
+        Kind::Sign(sign) => match sign {
+            Sign::Union => (0, Join::Followed),
+            Sign::Concatenation => (right, Join::Followed),
+            Sign::Shuffle => (right, Join::Shuffled),
+        },
         Kind::Star => (row, Join::Followed),
         _ => return None,
     };
@@ -52,29 +54,22 @@ pub fn right_side(table: Table<'_>, row: usize) -> Option<Side>
     ensures { result ≡ right_side (read_table table.entry) row }
 {
     let w = table.row(row);
-    let x = w.left as usize;
+    let left = w.left as usize;
     let child = w.right as usize;
-    let plain = Side {
-        child,
-        other: 0,
-        join: Join::Followed,
+    let Kind::Sign(sign) = Kind::of(w.kind)? else {
+        return None;
     };
-    match Kind::of(w.kind)? {
-        Kind::Sign(Sign::Union) => Some(plain),
-        Kind::Sign(Sign::Concatenation) => {
-            if empty_word(table, x) {
-                Some(plain)
-            } else {
-                None
+    let (other, join) = match sign {
+        Sign::Union => (0, Join::Followed),
+        Sign::Concatenation => {
+            if !empty_word(table, left) {
+                return None;
             }
+            (0, Join::Followed)
         }
-        Kind::Sign(Sign::Shuffle) => Some(Side {
-            child,
-            other: x,
-            join: Join::Shuffles,
-        }),
-        _ => None,
-    }
+        Sign::Shuffle => (left, Join::Shuffles),
+    };
+    Some(Side { child, other, join })
 }
 
 // The row of the join where neither tree is the literal empty word.
