@@ -2,18 +2,15 @@
 use Prim.Native.Nat.{ℕ, suc, ◌≤◌, ◌<◌}
 use native.Mathlib.Nat.{le_refl}
 use mathlib.Core.Path.{◌≡◌, refl, sym, ap, ◌∙◌, subst}
-use mathlib.Core.Option.{some}
 use mathlib.Core.List.{List, ◌∷◌, Memᴰ}
 use lib.ListN.{length}
 use Rattle.theory.specs.Expression.{Expression, same}
 use Rattle.theory.specs.Distinct.{beyond}
 use Rattle.theory.specs.Table.{Table, tree_at}
 use Rattle.theory.proofs.Distinct.{beyond_nil}
+use Rattle.std.specs.Prelude.{Option, Some, None, Result, Ok, Err}
+use Rattle.derive.specs.declared.rows.NoRoom.{NoRoom}
 use Rattle.derive.specs.declared.sides.Side.{Side}
-use Rattle.derive.specs.declared.walk.Place.{Place}
-use Rattle.derive.specs.declared.walk.Place.TheVariants.{Behind}
-use Rattle.derive.specs.declared.walk.Stepped.{Stepped}
-use Rattle.derive.specs.declared.walk.Stepped.TheVariants.{Found, End, NoRoom}
 use Rattle.derive.specs.Rows.{Grown, Came, Held}
 use Rattle.derive.specs.Sides.{WithinRow, side_list}
 use Rattle.derive.specs.Walk.{first_of, to_come, InList, PartOf, Gives, Steps}
@@ -25,14 +22,14 @@ use Rattle.derive.proofs.Stepping.{gives_as, to_come_within, next_to_come, grown
 
 -- Members of the side y from the place p up to the place p', all of them in the side x, have been passed over; rows that came are needed
 -- for y's list.
-pub record PassedOver (t : Table) (n room a : ℕ) (x y : Side) (p : Place) (t' : Table) (n' : ℕ) (p' : Place) : Type 0 where
+pub record PassedOver (t : Table) (n room a : ℕ) (x y : Option Side) (p : Option ℕ) (t' : Table) (n' : ℕ) (p' : Option ℕ) : Type 0 where
   pub left_within : WithinRow n n x
   pub right_within : WithinRow n n y
   pub came : Came t n room (PartOf (side_list a t y)) t' n'
   pub place : InList t' n' p' (side_list a t y)
   pub rest : beyond same (side_list a t x) (to_come t' p' (side_list a t y)) ≡ beyond same (side_list a t x) (to_come t p (side_list a t y))
 
-module _ {t : Table} {n room a : ℕ} {x y : Side} {p : Place} {t' : Table} {n' : ℕ} {p' : Place} (k : PassedOver t n room a x y p t' n' p') where
+module _ {t : Table} {n room a : ℕ} {x y : Option Side} {p : Option ℕ} {t' : Table} {n' : ℕ} {p' : Option ℕ} (k : PassedOver t n room a x y p t' n' p') where
   abbrev xs : List Expression
   xs = side_list a t x
 
@@ -46,12 +43,12 @@ module _ {t : Table} {n room a : ℕ} {x y : Side} {p : Place} {t' : Table} {n' 
   turn_side = grown_side k.came.grown y k.right_within
 
   -- A step along y's list, as it is once rows have come.
-  module _ {s : Stepped} {t'' : Table} (g : Steps t' n' room (side_list a t' y) p' s t'') where
-    step_then : Steps t' n' room ys p' s t''
-    step_then = subst (λ l. Steps t' n' room l p' s t'') (grown_list k.came.grown a y k.right_within) g
+  module _ {s : Result (Option ℕ) NoRoom} {t'' : Table} {u : ℕ} (g : Steps t' n' room (side_list a t' y) p' s t'' u) where
+    step_then : Steps t' n' room ys p' s t'' u
+    step_then = subst (λ l. Steps t' n' room l p' s t'' u) (grown_list k.came.grown a y k.right_within) g
 
-    module _ {row u : ℕ} (e : s ≡ Found row u) where
-      found : Held t' n' room (PartOf ys) (λ z. first_of (to_come t' p' ys) ≡ some z) row t'' u
+    module _ {row : ℕ} (e : s ≡ Ok (Some row)) where
+      found : Held t' n' room (PartOf ys) (λ z. first_of (to_come t' p' ys) ≡ Some z) row t'' u
       found = (gives_as e step_then).outcome
 
       grown : Grown t n t'' u
@@ -63,11 +60,11 @@ module _ {t : Table} {n room a : ℕ} {x y : Side} {p : Place} {t' : Table} {n' 
       next : (zs : List Expression) × (to_come t' p' ys ≡ tree_at t'' row ∷ zs)
       next = first_some (to_come t' p' ys) found.is
 
-      rest_then : to_come t'' (Behind row) ys ≡ next.0
+      rest_then : to_come t'' (Some row) ys ≡ next.0
       rest_then = next_to_come t' t'' p' ys row next.0 (side_no_repeats a t y) next.1
 
       -- A member that x does not have is the next.
-      pub turn_found : (Memᴰ (tree_at t'' row) (side_list a t'' x) → ⊥) → Gives t n room ys (beyond same xs (to_come t p ys)) (Found row u) t''
+      pub turn_found : (Memᴰ (tree_at t'' row) (side_list a t'' x) → ⊥) → Gives t n room ys (beyond same xs (to_come t p ys)) (Ok (Some row)) t'' u
       turn_found d =
           let new = beyond_keep xs (tree_at t'' row) next.0 (λ m. d (subst (Memᴰ (tree_at t'' row)) (sym left_then) m)) in
           record {
@@ -80,7 +77,7 @@ module _ {t : Table} {n room a : ℕ} {x y : Side} {p : Place} {t' : Table} {n' 
           }
 
       -- A member that x has is passed over.
-      pub turn_passed : Memᴰ (tree_at t'' row) (side_list a t'' x) → PassedOver t n room a x y p t'' u (Behind row)
+      pub turn_passed : Memᴰ (tree_at t'' row) (side_list a t'' x) → PassedOver t n room a x y p t'' u (Some row)
       turn_passed m =
           record {
             left_within = k.left_within;
@@ -92,26 +89,27 @@ module _ {t : Table} {n room a : ℕ} {x y : Side} {p : Place} {t' : Table} {n' 
                 ∙ sym (ap (beyond same xs) next.1) ∙ k.rest;
           }
 
-      pub turn_less : length (to_come t'' (Behind row) ys) < length (to_come t' p' ys)
+      pub turn_less : length (to_come t'' (Some row) ys) < length (to_come t' p' ys)
       turn_less =
-          subst (λ l. suc (length (to_come t'' (Behind row) ys)) ≤ length l) (sym next.1)
+          subst (λ l. suc (length (to_come t'' (Some row) ys)) ≤ length l) (sym next.1)
           (subst (λ l. suc (length l) ≤ suc (length next.0)) (sym rest_then) (le_refl (suc (length next.0))))
 
   -- y's list ended, or there was no room.
-  ended : (s : Stepped) {t'' : Table} → ((row u : ℕ) → s ≡ Found row u → ⊥) → Steps t' n' room ys p' s t''
-      → Gives t n room ys (beyond same xs (to_come t p ys)) s t''
-  ended (Found row u) d g = absurd (d row u refl)
-  ended (End u) d g =
-      let o = g.outcome in
-      record {
-        outcome =
-            record {
-              came = came_then k.came o.came;
-              nothing_left = ap first_of (sym k.rest ∙ ap (beyond same xs) (first_none (to_come t' p' ys) o.nothing_left) ∙ beyond_nil same xs);
-            };
-      }
-  ended NoRoom d g = record { outcome = short_then k.came g.outcome }
+  module _ {t'' : Table} {u : ℕ} where
+    ended : (s : Result (Option ℕ) NoRoom) → ((row : ℕ) → s ≡ Ok (Some row) → ⊥) → Steps t' n' room ys p' s t'' u
+        → Gives t n room ys (beyond same xs (to_come t p ys)) s t'' u
+    ended (Ok (Some row)) d g = absurd (d row refl)
+    ended (Ok None) d g =
+        let o = g.outcome in
+        record {
+          outcome =
+              record {
+                came = came_then k.came o.came;
+                nothing_left = ap first_of (sym k.rest ∙ ap (beyond same xs) (first_none (to_come t' p' ys) o.nothing_left) ∙ beyond_nil same xs);
+              };
+        }
+    ended (Err r) d g = record { outcome = short_then k.came g.outcome }
 
-  pub turn_ended : {s : Stepped} {t'' : Table} → Steps t' n' room (side_list a t' y) p' s t'' → ((row u : ℕ) → s ≡ Found row u → ⊥)
-      → Gives t n room ys (beyond same xs (to_come t p ys)) s t''
-  turn_ended {s} g d = ended s d (step_then g)
+    pub turn_ended : {s : Result (Option ℕ) NoRoom} → Steps t' n' room (side_list a t' y) p' s t'' u → ((row : ℕ) → s ≡ Ok (Some row) → ⊥)
+        → Gives t n room ys (beyond same xs (to_come t p ys)) s t'' u
+    turn_ended {s} g d = ended s d (step_then g)

@@ -9,15 +9,15 @@ use lib.Dec.{eqb}
 use Rattle.theory.specs.Kind
 use Rattle.theory.specs.Expression.{pair, Sign, binary, star, union, concatenation, shuffle}
 use Rattle.theory.specs.Derivative.{empty_word}
-use Rattle.theory.specs.Table.{Table, Row, row, Sound, tree_at, kind_of_sign, row_children}
+use Rattle.theory.specs.Table.{Table, Row, row, entry, Sound, tree_at, kind_of_sign, row_children}
 use Rattle.theory.proofs.Meaning.{kind_is, children_sign, children_star}
 use Rattle.theory.proofs.Pair.{pair_empty_word}
 use Rattle.theory.proofs.Sound.{Parent, parent, of_none, of_one, of_two}
 use Rattle.theory.proofs.Rooted.{Rooted, ∅_row, ε_row, letter_row, sign_row, star_row, rooted, tree_sign, tree_star}
 use Rattle.columns.specs.Row.{as_row, as_children}
-use Rattle.columns.specs.declared.Row.{Row as Taken}
-use Rattle.columns.specs.declared.Children.{Children}
-use Rattle.columns.specs.declared.Children.TheVariants.{Nothing, One, Two}
+use Rattle.columns.specs.declared.row.Row.{Row as Taken}
+use Rattle.columns.specs.declared.row.Children.{Children}
+use Rattle.columns.specs.declared.row.Children.TheVariants.{Nothing, One, Two}
 use Rattle.derive.specs.Rows.{SoundTo}
 
 -- The children told are those of the row.
@@ -48,6 +48,10 @@ module _ {t : Table} {i : ℕ} {w : Row} {r : Children} (k : Read t i w r) where
   -- A star over row c.
   pub star_read : {c : ℕ} → r ≡ One c → (c < i) × (tree_at t i ≡ star (tree_at t c))
   star_read e = let p = of_one (parent_read e) in (p.0, tree_star t i p.0 (sym k.is ∙ p.1))
+
+  -- Its row over another child.
+  pub star_with : {c : ℕ} → r ≡ One c → (x : ℕ) → entry w.kind x w.right ≡ entry Kind.star x 0
+  star_with e x = let p = of_one (parent_read e) in ap (λ (v : Row). entry v.kind x v.right) p.1
 
   -- A sign over rows c and d.
   pub sign_read : {c d : ℕ} → r ≡ Two c d
