@@ -9,12 +9,13 @@ use mathlib.Core.List.{Memᴰ}
 use Rattle.theory.specs.Kind
 use Rattle.theory.specs.Expression.{Expression, pair, star, parts}
 use Rattle.theory.specs.Distinct.{Within}
-use Rattle.theory.specs.Table.{Table, Row, entry, Sound, of_sign, kind_of_sign, trees, tree_at, row_tree}
+use Rattle.theory.specs.Table.{Table, Row, entry, Sound, of_sign, of_star, kind_of_sign, trees, tree_at, row_tree}
 use Rattle.theory.proofs.Pair.{pair_left, pair_right}
 use Rattle.theory.proofs.Trees.{trees_below}
 use Rattle.theory.proofs.Bounds.Parts.{part_whole, part_inner}
 use Rattle.theory.proofs.Sound.{sign_tree, star_tree, row_tree_cong}
-use Rattle.std.specs.Prelude.{Result, Ok, Err}
+use Rattle.std.specs.Prelude.{Result, Ok, Err, IsErr}
+use Rattle.std.proofs.lemmas.Bool.{false≢true}
 use Rattle.columns.specs.declared.row.Children.{Children}
 use Rattle.columns.specs.declared.row.Children.TheVariants.{Nothing, One, Two}
 use Rattle.derive.specs.declared.rows.NoRoom.{NoRoom}
@@ -50,8 +51,10 @@ takes_after : {t t' t'' : Table} {n n' n'' room : ℕ} {x e : Expression} {r : R
 takes_after {t' = t'} {t'' = t''} {n' = n'} {n'' = n''} {room = room} {e = e} {r = r} c q h =
     answered_then c (λ z p. Memᴰ.cast p (part_whole e)) (subst (λ y. Interns t' n' room y r t'' n'') q h)
 
-full_for : {t t' : Table} {n n' room : ℕ} {e : Expression} {x : NoRoom} → Short t n room (λ z. Memᴰ z (parts e)) t' → Takes t n room e (Err x) t' n'
-full_for s = record { answer = s }
+full_for : {t t' : Table} {n n' room : ℕ} {e : Expression} (r : Result ℕ NoRoom) → IsErr r → Short t n room (λ z. Memᴰ z (parts e)) t'
+    → Takes t n room e r t' n'
+full_for (Ok i) q s = absurd (false≢true q)
+full_for (Err x) q s = record { answer = s }
 
 -- ---- By the children of the given row
 
@@ -68,6 +71,9 @@ module _ {g : Table} {j : ℕ} {w : Row} {named : Children} (k : Read g j w name
   star_parts : {c : ℕ} → named ≡ One c → Within (parts (tree_at g c)) (parts (tree_at g j))
   star_parts {c} q = subst (λ e. Within (parts (tree_at g c)) (parts e)) (sym (star_read k q).1) (part_inner (tree_at g c))
 
+  pub star_sound : {c x u : ℕ} → named ≡ One c → x < u → Sound u (entry w.kind x w.right)
+  star_sound {x = x} q l = of_star x l (star_with k q x)
+
   module _ {t t₁ : Table} {n u room c : ℕ} (q : named ≡ One c) where
     pub takes_star : {t₂ : Table} {x v : ℕ} {r : Result ℕ NoRoom} → Took t n room (tree_at g c) x t₁ u
         → Interns t₁ u room (row_tree (entry w.kind x w.right) (trees t₁ u)) r t₂ v → Takes t n room (tree_at g j) r t₂ v
@@ -75,8 +81,8 @@ module _ {g : Table} {j : ℕ} {w : Row} {named : Children} (k : Read g j w name
         takes_after (came_part (tree_at g c) (tree_at g j) (star_parts q) d.came)
         (ap (λ i. row_tree i (trees t₁ u)) (star_with k q x) ∙ star_tree x (trees t₁ u) ∙ ap star (trees_below t₁ u x d.there ∙ d.is) ∙ sym (star_read k q).1) h
 
-    pub star_full : {x : NoRoom} {r : Result ℕ NoRoom} → r ≡ Err x → Takes t n room (tree_at g c) r t₁ u → Takes t n room (tree_at g j) (Err x) t₁ u
-    star_full e h = full_for (short_part (tree_at g c) (tree_at g j) (star_parts q) (took_not e h))
+    pub star_full : {x : NoRoom} {r : Result ℕ NoRoom} → Takes t n room (tree_at g c) (Err x) t₁ u → IsErr r → Takes t n room (tree_at g j) r t₁ u
+    star_full {r = r} h e = full_for r e (short_part (tree_at g c) (tree_at g j) (star_parts q) h.answer)
 
   -- ---- A sign over both children
 
@@ -91,17 +97,18 @@ module _ {g : Table} {j : ℕ} {w : Row} {named : Children} (k : Read g j w name
       subst (λ e. Within (parts (tree_at g d)) (parts e)) (sym p.4) (pair_right p.0 (tree_at g c) (tree_at g d))
 
   module _ {t t₁ : Table} {n u room c d : ℕ} (q : named ≡ Two c d) where
-    pub left_full : {x : NoRoom} {r : Result ℕ NoRoom} → r ≡ Err x → Takes t n room (tree_at g c) r t₁ u → Takes t n room (tree_at g j) (Err x) t₁ u
-    left_full e h = full_for (short_part (tree_at g c) (tree_at g j) (left_parts q) (took_not e h))
+    pub left_full : {x : NoRoom} {r : Result ℕ NoRoom} → Takes t n room (tree_at g c) (Err x) t₁ u → IsErr r → Takes t n room (tree_at g j) r t₁ u
+    left_full {r = r} h e = full_for r e (short_part (tree_at g c) (tree_at g j) (left_parts q) h.answer)
 
     module _ {x : ℕ} (a : Took t n room (tree_at g c) x t₁ u) where
       from_left : Came t n room (λ z. Memᴰ z (parts (tree_at g j))) t₁ u
       from_left = came_part (tree_at g c) (tree_at g j) (left_parts q) a.came
 
       module _ {t₂ : Table} {v : ℕ} where
-        pub right_full : {z : NoRoom} {r : Result ℕ NoRoom} → r ≡ Err z → Takes t₁ u room (tree_at g d) r t₂ v → Takes t n room (tree_at g j) (Err z) t₂ v
-        right_full e h =
-            full_for (short_then from_left (short_part (tree_at g d) (tree_at g j) (right_parts q) (took_not e h)))
+        pub right_full : {z : NoRoom} {r : Result ℕ NoRoom} → Takes t₁ u room (tree_at g d) (Err z) t₂ v → IsErr r
+            → Takes t n room (tree_at g j) r t₂ v
+        right_full {r = r} h e =
+            full_for r e (short_then from_left (short_part (tree_at g d) (tree_at g j) (right_parts q) h.answer))
 
         module _ {y : ℕ} (b : Took t₁ u room (tree_at g d) y t₂ v) where
           left_still : x < v

@@ -6,7 +6,7 @@ ghost use Rattle.theory.specs.Table.{tree_at};
 ghost use Rattle.columns.specs.Table.{read_table};
 ghost use Rattle.derive.specs.Rows.{rows_table, SameRows, Fitted, SoundTo, Takes};
 
-use columns::row::Children;
+use columns::row::{Children, Row};
 use columns::table::Table;
 use theory::kind::{Kind, Sign};
 
@@ -44,16 +44,26 @@ impl Rows<'_> {
         ensures takes { Takes (rows_table self.old) self.old.used self.old.room
             (tree_at (read_table given.entry) e) result (rows_table self.new) self.new.used }
     {
-        let mut w = given.row(e);
+        let w = given.row(e);
         match w.children() {
-            Children::Nothing => {}
-            Children::One { child } => w.left = self.take_over(given, child)? as u16,
+            Children::Nothing => self.intern(w),
+            Children::One { child } => {
+                let x = self.take_over(given, child)?;
+                self.intern(Row {
+                    left: x as u16,
+                    ..w
+                })
+            }
             Children::Two { left, right } => {
-                w.left = self.take_over(given, left)? as u16;
-                w.right = self.take_over(given, right)? as u16;
+                let x = self.take_over(given, left)?;
+                let y = self.take_over(given, right)?;
+                self.intern(Row {
+                    left: x as u16,
+                    right: y as u16,
+                    ..w
+                })
             }
         }
-        self.intern(w)
     }
 }
 
