@@ -81,7 +81,10 @@ pub fn empty_word(table: Table<'_>, row: usize) -> bool
         Kind::Sign(sign) => {
             let a = empty_word(table, w.left as usize);
             let b = empty_word(table, w.right as usize);
-            if sign == Sign::Union { a | b } else { a & b }
+            match sign {
+                Sign::Union => a | b,
+                _ => a & b,
+            }
         }
         Kind::Star => true,
         _ => false,
