@@ -110,19 +110,3 @@ module _ {t : Table} {n p other : ℕ} (h : Rows t n) (lp : p < n) (lo : other <
           → Lowers t n other j p (choose b (Some p) (choose (eqb p other) (Some 0) (parted (row t p) j other)))
       at_literal true e = (lp, ap (λ z. beside j z (tree_at t p)) (ap (tree_at t) (eqb-true _ _ e) ∙ h.literal) ∙ beside_literal j (tree_at t p))
       at_literal false e = at_other (eqb-false _ _ e) (eqb p other) refl
-
--- ---- As the code finds it
-
-module _ (t : Table) (other : ℕ) (j : Join) (p : ℕ) where
-  pub lowered_literal : other ≡ 0 → Some p ≡ lowered t other j p
-  unfolding lowered
-  lowered_literal e = sym (simp (eq-eqb other 0 e))
-
-  module _ (d : other ≡ 0 → ⊥) where
-    pub lowered_other : p ≡ other → Some 0 ≡ lowered t other j p
-    unfolding lowered
-    lowered_other e = sym (simp (ne_eqb other 0 d, eq-eqb p other e))
-
-    pub lowered_parted : (p ≡ other → ⊥) → {w : Row} {r : Option ℕ} → w ≡ row t p → r ≡ parted w j other → r ≡ lowered t other j p
-    unfolding lowered
-    lowered_parted k e q = q ∙ ap (λ v. parted v j other) e ∙ sym (simp (ne_eqb other 0 d, ne_eqb p other k))

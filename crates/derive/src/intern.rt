@@ -61,6 +61,7 @@ impl Rows<'_> {
 }
 
 // A sign's row over the rows x and y.
+#[tactic(auto, unfolding(theory::specs::Table::kind_of_sign))]
 pub fn pair(sign: Sign, x: usize, y: usize) -> Row
     requires { (x ≤ most_expressions) × (y ≤ most_expressions) }
     ensures { as_row result ≡ entry (kind_of_sign (as_sign sign)) x y }

@@ -30,6 +30,7 @@ pub struct Side {
     pub join: Join,
 }
 
+#[tactic(auto, unfolding(crate::specs::Sides::left_side))]
 pub fn left_side(table: Table<'_>, row: usize) -> Option<Side>
     requires { SoundTo (read_table table) row }
     ensures { result ≡ left_side (read_table table.entry) row }
@@ -49,6 +50,7 @@ pub fn left_side(table: Table<'_>, row: usize) -> Option<Side>
     Some(Side { child, other, join })
 }
 
+#[tactic(auto, unfolding(crate::specs::Sides::right_side))]
 pub fn right_side(table: Table<'_>, row: usize) -> Option<Side>
     requires { SoundTo (read_table table) row }
     ensures { result ≡ right_side (read_table table.entry) row }
@@ -73,6 +75,7 @@ pub fn right_side(table: Table<'_>, row: usize) -> Option<Side>
 }
 
 // The row of the join where neither tree is the literal empty word.
+#[tactic(auto, unfolding(theory::specs::Table::kind_of_sign))]
 fn joined(join: Join, other: usize, member: usize) -> Row
     requires { (other ≤ most_expressions) × (member ≤ most_expressions) }
     ensures { as_row result ≡ arranged join (entry (kind_of_sign (join_sign join))) member other }
@@ -117,6 +120,7 @@ fn kept(signed: bool, member: usize, o: usize, other: usize) -> Option<usize>
 }
 
 // The member of the row w, where w is a join with the side's other tree.
+#[tactic(auto, unfolding(crate::specs::Sides::parted, theory::specs::Table::kind_of_sign))]
 fn parted(w: Row, side: Side) -> Option<usize>
     ensures { result ≡ parted (as_row w) side.join side.other }
 {
@@ -130,6 +134,7 @@ fn parted(w: Row, side: Side) -> Option<usize>
 }
 
 // The member whose join with the side's other tree is the row p.
+#[tactic(auto, unfolding(crate::specs::Sides::lowered))]
 pub fn lower(table: Table<'_>, side: Side, p: usize) -> Option<usize>
     requires { SoundTo (read_table table) p }
     ensures { result ≡ lowered (read_table table.entry) side.other side.join p }
