@@ -91,10 +91,11 @@ pub record TwoSides (t : Table) (n i : ℕ) (x y : Option Side) : Type 0 where
   pub left : x ≡ left_side t i
   pub right : y ≡ right_side t i
 
--- As the code reads the row, which is w.
-pub two_sides : {t : Table} {n i : ℕ} {w : Row} {x y : Option Side} → Rows t n → i < n → w ≡ row t i → (w.kind ≡ Kind.letter → ⊥) → x ≡ left_side t i
-    → y ≡ right_side t i → TwoSides t n i x y
-two_sides h l e d p q = record { rows = h; within = l; no_letter = λ z. d (ap (λ (v : Row). v.kind) e ∙ z); left = p; right = q }
+-- As the code reads the row, which is w, and the kind k of a letter.
+pub two_sides : {t : Table} {n i k : ℕ} {w : Row} {x y : Option Side} → Rows t n → i < n → w ≡ row t i → (w.kind ≡ k → ⊥) → k ≡ Kind.letter
+    → x ≡ left_side t i → y ≡ right_side t i → TwoSides t n i x y
+two_sides h l e d z p q =
+    record { rows = h; within = l; no_letter = λ a. d (ap (λ (v : Row). v.kind) e ∙ a ∙ sym z); left = p; right = q }
 
 module _ {t : Table} {n i : ℕ} {x y : Option Side} (k : TwoSides t n i x y) where
   left_row : WithinRow n i x

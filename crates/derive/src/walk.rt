@@ -21,7 +21,7 @@ fn has(table: Table<'_>, letter: u8, row: usize, member: usize) -> bool
     ensures { RowHas (read_table table.entry) letter row member result }
 {
     let w = table.row(row);
-    if Kind::of(w.kind) == Some(Kind::Letter) {
+    if w.kind == Kind::Letter.number() {
         return (w.left == letter as u16) & (member == 0);
     }
     if side_has(table, letter, left_side(table, row), member) {
@@ -56,7 +56,7 @@ pub fn step(rows: &mut Rows<'_>, letter: u8, row: usize, after: Option<usize>) -
 {
     let table = rows.view();
     let w = table.row(row);
-    if Kind::of(w.kind) == Some(Kind::Letter) {
+    if w.kind == Kind::Letter.number() {
         return Ok(letter_step(w.left == letter as u16, after));
     }
     let a = left_side(table, row);
