@@ -43,6 +43,10 @@ pub record Lettered (t : Table) (n i : ℕ) (w : Row) : Type 0 where
   pub is : w ≡ row t i
   pub kind : w.kind ≡ Kind.letter
 
+-- As the code reads it, of the table seen as u.
+pub lettered : {t u : Table} {n i : ℕ} {w : Row} → Rows t n → i < n → u ≡ t → w ≡ row u i → w.kind ≡ Kind.letter → Lettered t n i w
+lettered {i = i} h l view e q = record { rows = h; within = l; is = e ∙ ap (λ v. row v i) view; kind = q }
+
 module _ {t : Table} {n i : ℕ} {w : Row} (k : Lettered t n i w) (a : ℕ) where
   letter_tree : tree_at t i ≡ letter w.left
   letter_tree =
@@ -91,11 +95,17 @@ pub record TwoSides (t : Table) (n i : ℕ) (x y : Option Side) : Type 0 where
   pub left : x ≡ left_side t i
   pub right : y ≡ right_side t i
 
--- As the code reads the row, which is w, and the kind k of a letter.
-pub two_sides : {t : Table} {n i k : ℕ} {w : Row} {x y : Option Side} → Rows t n → i < n → w ≡ row t i → (w.kind ≡ k → ⊥) → k ≡ Kind.letter
-    → x ≡ left_side t i → y ≡ right_side t i → TwoSides t n i x y
-two_sides h l e d z p q =
-    record { rows = h; within = l; no_letter = λ a. d (ap (λ (v : Row). v.kind) e ∙ a ∙ sym z); left = p; right = q }
+-- As the code reads the row, which is w, of the table seen as u. The kind of a letter is k.
+pub two_sides : {t u : Table} {n i k : ℕ} {w : Row} {x y : Option Side} → Rows t n → i < n → u ≡ t → w ≡ row u i → (w.kind ≡ k → ⊥) → k ≡ Kind.letter
+    → x ≡ left_side u i → y ≡ right_side u i → TwoSides t n i x y
+two_sides {i = i} h l view e d z p q =
+    record {
+      rows = h;
+      within = l;
+      no_letter = λ b. d (ap (λ (v : Row). v.kind) (e ∙ ap (λ v. row v i) view) ∙ b ∙ sym z);
+      left = p ∙ ap (λ v. left_side v i) view;
+      right = q ∙ ap (λ v. right_side v i) view;
+    }
 
 module _ {t : Table} {n i : ℕ} {x y : Option Side} (k : TwoSides t n i x y) where
   left_row : WithinRow n i x

@@ -10,7 +10,7 @@ use Rattle.theory.specs.Expression.{Expression, same, ε}
 use Rattle.theory.specs.Distinct.{beyond}
 use Rattle.theory.specs.Derivative.{derivative}
 use Rattle.theory.specs.Table.{Table, Row, tree_at}
-use Rattle.std.specs.Prelude.{Option, Some, None, Result, Ok, Err}
+use Rattle.std.specs.Prelude.{Option, Some, None, Result, Ok, Err, IsErr}
 use Rattle.derive.specs.declared.rows.NoRoom.{NoRoom}
 use Rattle.derive.specs.declared.sides.Side.{Side}
 use Rattle.derive.specs.Rows.{Fitted}
@@ -20,7 +20,7 @@ use Rattle.derive.proofs.Coming.{came_none, came_for, short_for}
 use Rattle.derive.proofs.Listing.{first_none, first_append, behind_first, behind_second, behind_beyond, behind_head, distinct_beyond}
 use Rattle.derive.proofs.Membership.{Lettered, letter_list, TwoSides, left_within, right_within, lists, left_has, right_has, sides_have}
 use Rattle.derive.proofs.Siding.{side_no_repeats}
-use Rattle.derive.proofs.Stepping.{gives_as, part_within, gives_then, grown_list, grown_side}
+use Rattle.derive.proofs.Stepping.{gives_as, gives_short, part_within, gives_then, grown_list, grown_side}
 
 -- ---- A letter's row
 
@@ -79,6 +79,14 @@ module _ {t : Table} {n i : ℕ} {x y : Option Side} (k : TwoSides t n i x y) (a
   two_lists : whole ≡ A ++ beyond same A B
   two_lists = lists k a ∙ distinct_beyond A B (side_no_repeats a t x) (side_no_repeats a t y)
 
+  -- Whether the walk of x's list goes on is asked of the table as it is seen, u.
+  module _ (place : Option ℕ) {u : Table} (view : u ≡ t) where
+    pub stands : Stands u place (side_list a u x) → Stands t place A
+    stands m = subst (λ v. Stands v place (side_list a v x)) view m
+
+    pub stands_not : (Stands u place (side_list a u x) → ⊥) → Stands t place A → ⊥
+    stands_not d = subst (λ v. Stands v place (side_list a v x) → ⊥) view d
+
   module _ (place : Option ℕ) (j : InList t n place whole) where
     pub place_among : PlaceAmong t x place
     place_among = go place j
@@ -102,21 +110,24 @@ module _ {t : Table} {n i : ℕ} {x y : Option Side} (k : TwoSides t n i x y) (a
         go (Some r) m d = (m.0, ⊎_elim (λ s. absurd (d s)) (λ s. s) (sides_have k a (tree_at t r) m.1))
 
   module _ {room : ℕ} (f : Fitted t n room) (place : Option ℕ) where
-    -- The left side's step found a member, or had no room.
-    pub step_left : Stands t place A → (s : Result (Option ℕ) NoRoom) → (s ≡ Ok None → ⊥) → {t' : Table} {u : ℕ} → Steps t n room A place s t' u
-        → Steps t n room whole place s t' u
-    step_left m (Ok (Some r)) d g =
-        let o = g.outcome in
+    -- The left side's step found a member.
+    pub step_found : {o : Option ℕ} {m : ℕ} {t' : Table} {u : ℕ} → Stands t place A → Steps t n room A place (Ok o) t' u → o ≡ Some m
+        → Steps t n room whole place (Ok (Some m)) t' u
+    step_found d g e =
+        let o = (gives_as (ap (λ v. Ok v) e) g).outcome in
         record {
           outcome =
               record {
                 came = came_for (λ z p. inr (part_within (left_has k a) z p)) o.came;
                 there = o.there;
-                is = ap first_of (coming_left t A B two_lists place m) ∙ first_append (to_come t place A) (beyond same A B) o.is;
+                is = ap first_of (coming_left t A B two_lists place d) ∙ first_append (to_come t place A) (beyond same A B) o.is;
               };
         }
-    step_left m (Ok None) d g = absurd (d refl)
-    step_left m (Err r) d g = record { outcome = short_for (λ z p. inr (part_within (left_has k a) z p)) g.outcome }
+
+    -- It had no room.
+    pub step_full : {x' : NoRoom} {r : Result (Option ℕ) NoRoom} {t' : Table} {u : ℕ} → Steps t n room A place (Err x') t' u → IsErr r
+        → Steps t n room whole place r t' u
+    step_full {r = r} g e = gives_short r e (short_for (λ z p. inr (part_within (left_has k a) z p)) g.outcome)
 
     -- The place is one of the right side's that the left side does not have.
     pub step_right : (Stands t place A → ⊥) → (r : Result (Option ℕ) NoRoom) {t' : Table} {n' : ℕ} → Gives t n room B (beyond same A (to_come t place B)) r t' n'
@@ -124,9 +135,9 @@ module _ {t : Table} {n i : ℕ} {x y : Option Side} (k : TwoSides t n i x y) (a
     step_right d r g = gives_then (came_none (PartOf whole) f) (right_has k a) (ap first_of (coming_right t A B two_lists place d)) r g
 
     -- The left side's list has ended, in the table t' with u rows, and the walk goes on at the start of the right side.
-    module _ {s : Result (Option ℕ) NoRoom} {u : ℕ} {t' : Table} (g : Steps t n room A place s t' u) (o : s ≡ Ok None) where
+    module _ {o : Option ℕ} {u : ℕ} {t' : Table} (g : Steps t n room A place (Ok o) t' u) (e : o ≡ None) where
       pub ended : Ended t n room A (to_come t place A) t' u
-      ended = (gives_as o g).outcome
+      ended = (gives_as (ap (λ v. Ok v) e) g).outcome
 
       pub ended_sides : WithinRow u u x × WithinRow u u y
       ended_sides = (grown_side ended.came.grown x (left_within k), grown_side ended.came.grown y (right_within k))

@@ -9,7 +9,7 @@ use Rattle.theory.specs.Derivative.{derivative}
 use Rattle.theory.specs.Table.{Table, trees, tree_at}
 use Rattle.theory.proofs.Bounds.Parts.{part_whole}
 use Rattle.theory.proofs.Trees.{to_trees}
-use Rattle.std.specs.Prelude.{Option, Some, None, Result, Ok, Err}
+use Rattle.std.specs.Prelude.{Option, Some, None, Result, Ok, Err, IsErr}
 use Rattle.derive.specs.declared.rows.NoRoom.{NoRoom}
 use Rattle.derive.specs.declared.sides.Join.{Join}
 use Rattle.derive.specs.declared.sides.Side.{Side}
@@ -21,7 +21,7 @@ use Rattle.derive.proofs.Growing.{grown_tree}
 use Rattle.derive.proofs.Joining.{beside_tells, beside_parts}
 use Rattle.derive.proofs.Listing.{first_none, first_member, first_map, behind_map}
 use Rattle.derive.proofs.Lowering.{Lowers, lowers}
-use Rattle.derive.proofs.Stepping.{gives_as, to_come_within}
+use Rattle.derive.proofs.Stepping.{gives_as, gives_short, to_come_within}
 
 -- ---- The place in the child's list
 
@@ -56,10 +56,12 @@ pub record Inner (t : Table) (n a : ℕ) (side : Option Side) (s : Side) (place 
   pub place_in : InList t n place (side_list a t side)
   pub lowered : inner ≡ lowered_place t s.other s.join place
 
-pub inner_told : {t : Table} {n : ℕ} (a : ℕ) {side : Option Side} {s : Side} (place : Option ℕ) {inner : Option ℕ} → Rows t n
-    → side ≡ Some s → WithinRow n n side → InList t n place (side_list a t side) → inner ≡ lowered_place t s.other s.join place
+-- The table is seen as u.
+pub inner_told : {t u : Table} {n : ℕ} (a : ℕ) {side : Option Side} {s : Side} (place : Option ℕ) {inner : Option ℕ} → Rows t n → u ≡ t
+    → side ≡ Some s → WithinRow n n side → InList t n place (side_list a t side) → inner ≡ lowered_place u s.other s.join place
     → Inner t n a side s place inner
-inner_told a place h e w i q = record { rows = h; is = e; within = w; place_in = i; lowered = q }
+inner_told a {s = s} place h view e w i q =
+    record { rows = h; is = e; within = w; place_in = i; lowered = q ∙ ap (λ v. lowered_place v s.other s.join place) view }
 
 module _ {t : Table} {n a : ℕ} {side : Option Side} {s : Side} {place inner : Option ℕ} (k : Inner t n a side s place inner) where
   abbrev ms : List Expression
@@ -95,9 +97,9 @@ module _ {t : Table} {n a : ℕ} {side : Option Side} {s : Side} {place inner : 
 
   module _ {room : ℕ} {t₁ : Table} {u : ℕ} where
     -- The child's step found a member.
-    module _ {row : ℕ} {r : Result (Option ℕ) NoRoom} (es : r ≡ Ok (Some row)) (g : Gives t n room ms (to_come t inner ms) r t₁ u) where
+    module _ {row : ℕ} {o : Option ℕ} (g : Gives t n room ms (to_come t inner ms) (Ok o) t₁ u) (e : o ≡ Some row) where
       pub found : Held t n room (PartOf ms) (λ z. first_of (to_come t inner ms) ≡ Some z) row t₁ u
-      found = (gives_as es g).outcome
+      found = (gives_as (ap (λ v. Ok v) e) g).outcome
 
       abbrev lifted : Expression
       lifted = beside s.join (tree_at t₁ s.other) (tree_at t₁ row)
@@ -120,15 +122,15 @@ module _ {t : Table} {n a : ℕ} {side : Option Side} {s : Side} {place inner : 
           let o = (answered_then (came_for needed_side found.came) lifted_part f).answer in
           record { outcome = record { came = o.came; there = o.there; is = lifted_first ∙ ap (λ z. Some z) (sym o.is) } }
 
-      pub side_short : {x : NoRoom} {t₂ : Table} {v : ℕ} → Interns t₁ u room lifted (Err x) t₂ v → Steps t n room (side_list a t side) place (Err x) t₂ v
-      side_short f = record { outcome = (answered_then (came_for needed_side found.came) lifted_part f).answer }
+      pub side_short : {x : NoRoom} {r : Result (Option ℕ) NoRoom} {t₂ : Table} {v : ℕ} → Interns t₁ u room lifted (Err x) t₂ v → IsErr r
+          → Steps t n room (side_list a t side) place r t₂ v
+      side_short {r = r} f q = gives_short r q (answered_then (came_for needed_side found.came) lifted_part f).answer
 
     -- The child's step ended, or had no room.
-    pub side_ended : (r : Result (Option ℕ) NoRoom) → ((row : ℕ) → r ≡ Ok (Some row) → ⊥) → Gives t n room ms (to_come t inner ms) r t₁ u
-        → Steps t n room (side_list a t side) place r t₁ u
-    side_ended (Ok (Some row)) d g = absurd (d row refl)
-    side_ended (Ok None) d g =
-        let o = g.outcome in
+    pub side_ended : {o : Option ℕ} → Gives t n room ms (to_come t inner ms) (Ok o) t₁ u → o ≡ None
+        → Steps t n room (side_list a t side) place (Ok None) t₁ u
+    side_ended g e =
+        let o = (gives_as (ap (λ v. Ok v) e) g).outcome in
         record {
           outcome =
               record {
@@ -136,4 +138,7 @@ module _ {t : Table} {n a : ℕ} {side : Option Side} {s : Side} {place inner : 
                 nothing_left = ap first_of (inner_to_come ∙ ap (map joined_with) (first_none (to_come t inner ms) o.nothing_left));
               };
         }
-    side_ended (Err x) d g = record { outcome = short_for needed_side g.outcome }
+
+    pub side_full : {x : NoRoom} {r : Result (Option ℕ) NoRoom} → Gives t n room ms (to_come t inner ms) (Err x) t₁ u → IsErr r
+        → Steps t n room (side_list a t side) place r t₁ u
+    side_full {r = r} g e = gives_short r e (short_for needed_side g.outcome)

@@ -9,10 +9,11 @@ use Rattle.theory.specs.Expression.{Expression}
 use Rattle.theory.specs.Distinct.{NoRepeats, Within}
 use Rattle.theory.specs.Derivative.{derivative}
 use Rattle.theory.specs.Table.{Table, tree_at}
-use Rattle.std.specs.Prelude.{Option, Some, None, Result, Ok, Err}
+use Rattle.std.specs.Prelude.{Option, Some, None, Result, Ok, Err, IsErr}
+use Rattle.std.proofs.lemmas.Bool.{false≢true}
 use Rattle.derive.specs.declared.rows.NoRoom.{NoRoom}
 use Rattle.derive.specs.declared.sides.Side.{Side}
-use Rattle.derive.specs.Rows.{Rows, Grown, Came}
+use Rattle.derive.specs.Rows.{Rows, Grown, Came, Short}
 use Rattle.derive.specs.Sides.{WithinRow, beside, side_list}
 use Rattle.derive.specs.Walk.{behind, first_of, to_come, InList, PlaceWithin, PartOf, Gives}
 use Rattle.derive.proofs.Coming.{came_for, came_then, short_for, short_then}
@@ -24,6 +25,17 @@ use Rattle.derive.proofs.Listing.{behind_within, behind_head, behind_next}
 pub gives_as : {t t' : Table} {n n' room : ℕ} {ms xs : List Expression} {r r' : Result (Option ℕ) NoRoom} → r ≡ r' → Gives t n room ms xs r t' n'
     → Gives t n room ms xs r' t' n'
 gives_as {t} {t'} {n} {n'} {room} {ms} {xs} q g = subst (λ s. Gives t n room ms xs s t' n') q g
+
+-- In the room that the columns have had all along.
+pub gives_at : {t t' : Table} {n n' room room' : ℕ} {ms xs : List Expression} {r : Result (Option ℕ) NoRoom} → room' ≡ room
+    → Gives t n room' ms xs r t' n' → Gives t n room ms xs r t' n'
+gives_at {t} {t'} {n} {n'} {ms = ms} {xs} {r} q g = subst (λ (k : ℕ). Gives t n k ms xs r t' n') q g
+
+-- An error is that there is no room.
+pub gives_short : {t t' : Table} {n n' room : ℕ} {ms xs : List Expression} (r : Result (Option ℕ) NoRoom) → IsErr r
+    → Short t n room (PartOf ms) t' → Gives t n room ms xs r t' n'
+gives_short (Ok o) q s = absurd (false≢true q)
+gives_short (Err x) q s = record { outcome = s }
 
 pub part_within : {ms ms' : List Expression} → Within ms ms' → (z : Expression) → PartOf ms z → PartOf ms' z
 part_within w z p = (p.0, w p.0 p.1, p.2)

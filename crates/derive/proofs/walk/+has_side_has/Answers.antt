@@ -16,14 +16,14 @@ has-left_side-requires t c = rows_sound_to c.requires.rows c.requires.row_in
 
 pub has-side_has-requires : goal.has-side_has-requires
 has-side_has-requires t c =
-    let k = two_sides c.requires.rows c.requires.row_in c.row-w.ensures c.if-w-number.false c.number.ensures c.left_side.ensures refl in (
+    let k = two_sides c.requires.rows c.requires.row_in refl c.row-w.ensures c.if-w-number.false c.number.ensures c.left_side.ensures refl in (
       omega (arith, left_less k),
       record { count = c.requires.count; rows = c.requires.rows; side_in = left_within k; member_in = c.requires.member_in },
     )
 
 pub has-returns-then-side_has : goal.has-returns-then-side_has
 has-returns-then-side_has t c =
-    left_has (two_sides c.requires.rows c.requires.row_in c.row-w.ensures c.if-w-number.false c.number.ensures c.left_side.ensures refl) _ _
+    left_has (two_sides c.requires.rows c.requires.row_in refl c.row-w.ensures c.if-w-number.false c.number.ensures c.left_side.ensures refl) _ _
     c.if-side_has.ensures
 
 pub has-right_side-requires : goal.has-right_side-requires
@@ -31,7 +31,7 @@ has-right_side-requires t c = rows_sound_to c.requires.rows c.requires.row_in
 
 pub has-side_has-requires-2 : goal.has-side_has-requires-2
 has-side_has-requires-2 t c =
-    let k = two_sides c.requires.rows c.requires.row_in c.row-w.ensures c.if-w-number.false c.number.ensures c.left_side.ensures c.right_side.ensures in (
+    let k = two_sides c.requires.rows c.requires.row_in refl c.row-w.ensures c.if-w-number.false c.number.ensures c.left_side.ensures c.right_side.ensures in (
       omega (arith, right_less k),
       record { count = c.requires.count; rows = c.requires.rows; side_in = right_within k; member_in = c.requires.member_in },
     )
@@ -39,7 +39,7 @@ has-side_has-requires-2 t c =
 pub has-returns : goal.has-returns
 has-returns t c =
     right_tells
-    (two_sides c.requires.rows c.requires.row_in c.row-w.ensures c.if-w-number.false c.number.ensures c.left_side.ensures c.right_side.ensures) _ _
+    (two_sides c.requires.rows c.requires.row_in refl c.row-w.ensures c.if-w-number.false c.number.ensures c.left_side.ensures c.right_side.ensures) _ _
     c.side_has-2.result c.if-side_has.ensures c.side_has-2.ensures
 
 -- ---- A side's list
