@@ -1,7 +1,7 @@
 -- The next member of the right side that the left side does not have: members of both are passed over one at a time.
 use Prim.Native.Nat.{ℕ, suc, ◌≤◌, ◌<◌}
 use native.Mathlib.Nat.{le_refl}
-use mathlib.Core.Path.{◌≡◌, refl, sym, ap, ◌∙◌, subst}
+use mathlib.Core.Path.{◌≡◌, sym, ap, ◌∙◌, subst}
 use mathlib.Core.List.{List, ◌∷◌, Memᴰ}
 use lib.ListN.{length}
 use Rattle.theory.specs.Expression.{Expression, same}

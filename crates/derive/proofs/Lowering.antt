@@ -4,7 +4,7 @@ use native.Mathlib.Nat.{le_trans, le_of_lt}
 use mathlib.Core.Path.{◌≡◌, refl, sym, ap, ◌∙◌}
 use mathlib.Core.Bool.{Bool, true, false, not, ◌&&◌}
 use lib.Dec.{eqb}
-use borrow.Author.Tests.{eqb-true, eqb-false, eq-eqb, ne_eqb}
+use borrow.Author.Tests.{eqb-true, eqb-false}
 use Rattle.theory.specs.Expression.{Expression, same, ε}
 use Rattle.theory.specs.Table.{Table, Row, row, tree_at, kind_of_sign}
 use Rattle.theory.proofs.Rooted.{rooted, sign_rooted, pair_rooted}

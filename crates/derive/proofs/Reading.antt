@@ -2,7 +2,6 @@
 -- the answer for the empty word, by the row's kind.
 use Prim.Native.Nat.{ℕ, suc, ◌<◌}
 use native.Mathlib.Nat.{le_refl}
-use native.Mathlib.Omega.{arith}
 use mathlib.Core.Path.{◌≡◌, refl, sym, ap, ap₂, ◌∙◌, subst}
 use mathlib.Core.Bool.{Bool, true, false, ◌&&◌, ◌||◌}
 use Rattle.theory.specs.Kind as paper

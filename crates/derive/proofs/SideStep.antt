@@ -13,7 +13,7 @@ use Rattle.std.specs.Prelude.{Option, Some, None, Result, Ok, Err, IsErr}
 use Rattle.derive.specs.declared.rows.NoRoom.{NoRoom}
 use Rattle.derive.specs.declared.sides.Join.{Join}
 use Rattle.derive.specs.declared.sides.Side.{Side}
-use Rattle.derive.specs.Rows.{Rows, Held, Answered, Interns}
+use Rattle.derive.specs.Rows.{Rows, Held, Interns}
 use Rattle.derive.specs.Sides.{WithinRow, beside, side_list, lowered}
 use Rattle.derive.specs.Walk.{behind, first_of, to_come, InList, lowered_place, PartOf, Gives, Steps}
 use Rattle.derive.proofs.Coming.{came_for, short_for, answered_then}

@@ -1,6 +1,6 @@
 -- The list of a derivative is what its two sides have, without repeats, and the sides name rows that are there.
-use Prim.Native.Nat.{ℕ, suc, ◌<◌}
-use native.Mathlib.Nat.{le_refl, le_trans, le_of_lt}
+use Prim.Native.Nat.{ℕ, ◌<◌}
+use native.Mathlib.Nat.{le_trans, le_of_lt}
 use mathlib.Core.Path.{◌≡◌, refl, sym, ap, ap₂, ◌∙◌, subst}
 use mathlib.Core.Bool.{Bool, true, false, cond}
 use mathlib.Core.List.{List, [], ◌++◌, map, append-nil}
@@ -8,17 +8,16 @@ use Rattle.theory.specs.Kind
 use Rattle.theory.specs.Expression.{Expression, same, Sign, binary, star, union, concatenation, shuffle}
 use Rattle.theory.specs.Distinct.{distinct, NoRepeats}
 use Rattle.theory.specs.Derivative.{joined, derivative, empty_word}
-use Rattle.theory.specs.Table.{Table, Row, row, tree_at, kind_of_sign, Meaning, ∅_kind, ε_kind, letter_kind, sign_kind, star_kind, unknown_kind, meaning}
+use Rattle.theory.specs.Table.{Table, Row, row, tree_at, Meaning, ∅_kind, ε_kind, letter_kind, sign_kind, star_kind, meaning}
 use Rattle.theory.proofs.Derivative.{gathered, derivative_gathered, derivative_pair, derivative_no_repeats}
-use Rattle.theory.proofs.Meaning.{Numbered, numbered, meaning_is, kind_is}
+use Rattle.theory.proofs.Meaning.{Numbered, meaning_is, kind_is}
 use Rattle.theory.proofs.Members.{map_same}
-use Rattle.theory.proofs.Rooted.{Rooted, ∅_row, ε_row, letter_row, sign_row, star_row, rooted, sign_rooted}
+use Rattle.theory.proofs.Rooted.{Rooted, ∅_row, ε_row, letter_row, sign_row, star_row, rooted}
 use Rattle.derive.specs.declared.sides.Join.TheVariants.{Followed}
 use Rattle.std.specs.Prelude.{Option, Some, None}
 use Rattle.derive.specs.declared.sides.Side.{Side}
-use Rattle.derive.specs.Rows.{Rows, SoundTo}
+use Rattle.derive.specs.Rows.{Rows}
 use Rattle.derive.specs.Sides.{WithinRow, beside, side_list, side_of, pick, left_of, right_of, left_side, right_side}
-use Rattle.derive.proofs.Growing.{sound_to_less}
 use Rattle.derive.proofs.Joining.{beside_literal, beside_tells}
 use Rattle.derive.proofs.Listing.{map_no_repeats}
 

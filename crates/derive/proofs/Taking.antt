@@ -2,11 +2,10 @@
 use Prim.Native.Nat.{ℕ, ◌<◌}
 use native.Mathlib.Nat.{lt_of_lt_of_le}
 use native.Mathlib.Omega.{arith}
-use mathlib.Core.Path.{◌≡◌, refl, sym, ap, ap₂, ◌∙◌, subst}
+use mathlib.Core.Path.{◌≡◌, sym, ap, ap₂, ◌∙◌, subst}
 use mathlib.Core.Logic.{inr}
 use mathlib.Core.List.Memᴰ
 use mathlib.Core.List.{Memᴰ}
-use Rattle.theory.specs.Kind
 use Rattle.theory.specs.Expression.{Expression, pair, star, parts}
 use Rattle.theory.specs.Distinct.{Within}
 use Rattle.theory.specs.Table.{Table, Row, entry, Sound, of_sign, of_star, kind_of_sign, trees, tree_at, row_tree}

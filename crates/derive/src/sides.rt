@@ -9,7 +9,7 @@ ghost use Rattle.derive.specs.Rows.{rows_table, SameRows, Fitted, SoundTo, Inter
 ghost use Rattle.derive.specs.Sides.{join_sign, arranged, beside, left_side, right_side, choose, parted, lowered};
 
 use super::intern::pair;
-use super::rows::{empty_word, NoRoom, Rows};
+use super::rows::{NoRoom, Rows, empty_word};
 use columns::row::Row;
 use columns::table::Table;
 use theory::kind::{Kind, Sign};
@@ -127,9 +127,24 @@ fn parted(w: Row, side: Side) -> Option<usize>
     let x = w.left as usize;
     let y = w.right as usize;
     match side.join {
-        Join::Followed => kept(w.kind == Kind::Sign(Sign::Concatenation).number(), x, y, side.other),
-        Join::Shuffled => kept(w.kind == Kind::Sign(Sign::Shuffle).number(), x, y, side.other),
-        Join::Shuffles => kept(w.kind == Kind::Sign(Sign::Shuffle).number(), y, x, side.other),
+        Join::Followed => kept(
+            w.kind == Kind::Sign(Sign::Concatenation).number(),
+            x,
+            y,
+            side.other,
+        ),
+        Join::Shuffled => kept(
+            w.kind == Kind::Sign(Sign::Shuffle).number(),
+            x,
+            y,
+            side.other,
+        ),
+        Join::Shuffles => kept(
+            w.kind == Kind::Sign(Sign::Shuffle).number(),
+            y,
+            x,
+            side.other,
+        ),
     }
 }
 

@@ -9,7 +9,7 @@ ghost use Rattle.derive.specs.Walk.{RowAmong, SideAmong, PlaceAmong, PlaceWithin
 ghost use Rattle.derive.specs.Walk.{RowHas, SideHas, SideStands, RowPlace, SidePlace, RowSteps, SideSteps, FreshSteps};
 
 use super::rows::{NoRoom, Rows};
-use super::sides::{left_side, lower, right_side, Side};
+use super::sides::{Side, left_side, lower, right_side};
 use columns::table::Table;
 use theory::kind::Kind;
 
@@ -47,7 +47,12 @@ fn side_has(table: Table<'_>, letter: u8, side: Option<Side>, member: usize) -> 
 
 // The next member of the list of `row` by the letter: the left side's list, then what the right side has beyond it.
 #[cycle(fresh_step_side_step_step)]
-pub fn step(rows: &mut Rows<'_>, letter: u8, row: usize, after: Option<usize>) -> Result<Option<usize>, NoRoom>
+pub fn step(
+    rows: &mut Rows<'_>,
+    letter: u8,
+    row: usize,
+    after: Option<usize>,
+) -> Result<Option<usize>, NoRoom>
     requires fitted { Fitted (rows_table rows.old) rows.old.used rows.old.room }
     requires row_lt_used { (row < rows.old.used) × RowPlace (rows_table rows.old) rows.old.used letter row after }
     ensures same { SameRows rows.old rows.new }
@@ -90,7 +95,12 @@ fn place_has(table: Table<'_>, letter: u8, side: Option<Side>, after: Option<usi
 
 // The child's next member, joined.
 #[cycle(fresh_step_side_step_step)]
-fn side_step(rows: &mut Rows<'_>, letter: u8, side: Option<Side>, after: Option<usize>) -> Result<Option<usize>, NoRoom>
+fn side_step(
+    rows: &mut Rows<'_>,
+    letter: u8,
+    side: Option<Side>,
+    after: Option<usize>,
+) -> Result<Option<usize>, NoRoom>
     requires fitted { Fitted (rows_table rows.old) rows.old.used rows.old.room }
     requires within_row { WithinRow rows.old.used rows.old.used side
         × SidePlace (rows_table rows.old) rows.old.used letter side after }

@@ -54,8 +54,7 @@ returns-in_err-x-in-Two-clause-takes t c =
 pub take_over-requires-in-Two-2 : goal.take_over-requires-in-Two-2
 take_over-requires-in-Two-2 t c =
     let p = sign_read (reads c.row-w.result c.children.result c.requires.sound_to c.row-w.ensures c.children.ensures) c.in-Two.is in
-    let a = c.take_over-in-Two.ensures.same in
-    (
+    let a = c.take_over-in-Two.ensures.same in (
       omega (arith, p.2),
       (sound_to_less c.requires.sound_to p.2, fitted_then c.requires.fitted c.in_ok-x-in-Two.ensures.takes.answer.came a.kind.length a.room),
     )
