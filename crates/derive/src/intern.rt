@@ -38,7 +38,7 @@ fn search_start(w: Row) -> usize
 }
 
 impl Rows<'_> {
-    pub fn intern(&mut self, w: Row) -> Result<usize, NoRoom>
+    pub(super) fn intern(&mut self, w: Row) -> Result<usize, NoRoom>
         requires fitted { Fitted (rows_table self.old) self.old.used self.old.room }
         requires sound { Sound self.old.used (as_row w) }
         ensures same { SameRows self.old self.new }

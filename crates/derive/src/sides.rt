@@ -89,7 +89,7 @@ fn joined(join: Join, other: usize, member: usize) -> Row
 
 impl Rows<'_> {
     // The row of a member joined with the side's other tree.
-    pub fn lift(&mut self, side: Side, member: usize) -> Result<usize, NoRoom>
+    pub(super) fn lift(&mut self, side: Side, member: usize) -> Result<usize, NoRoom>
         requires fitted { Fitted (rows_table self.old) self.old.used self.old.room }
         requires other_lt_used { (side.other < self.old.used) × (member < self.old.used) }
         ensures same { SameRows self.old self.new }
