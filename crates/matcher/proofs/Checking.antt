@@ -4,12 +4,13 @@ use mathlib.Core.Logic.Iff
 use mathlib.Core.Logic.{◌↔◌}
 use mathlib.Core.Bool.{Bool, true, false, ◌||◌}
 use Prim.Native.Nat.{ℕ, ◌≤◌}
+use mathlib.Core.List.{List}
 use lib.ListN.{length}
 use lib.Dec.{ltb}
 use Rattle.theory.specs.Limit.{most_states}
 use Rattle.theory.specs.Refusal.{refusal, success, columns_differ, automaton_malformed, work_short}
 use Rattle.theory.specs.Arcs.{ArcColumns, even_arcs, EvenArcs}
-use Rattle.theory.specs.Record.{Handed, Work, words, short, well_formed, matcher_refusal}
+use Rattle.theory.specs.Record.{Handed, handed, Work, words, short, well_formed, matcher_refusal}
 use Rattle.theory.proofs.Arcs.{even_arcs_iff}
 use Rattle.theory.proofs.Tests.{same_test}
 use Rattle.theory.proofs.MatcherRefusal.{refusal_by, well_formed_iff}
@@ -38,5 +39,6 @@ module _ (h : Handed) (k : Work) {even : Bool} (e : (even ≡ true) ↔ EvenArcs
       pub unrefused : (ltb (length k.current) m || ltb (length k.next) m) ≡ false → success ≡ matcher_refusal h k
       unrefused s = sym (refusal_by h k (even_by h.arcs.columns e q) (sym g ∙ b) (short_by k h.states n s))
 
-pub few_states : (h : Handed) {good : Bool} → good ≡ well_formed h → good ≡ true → h.states ≤ most_states
-few_states h g b = ((well_formed_iff h).0 (sym g ∙ b)).few_states
+pub few_states : (n : ℕ) (accepting : List ℕ) (m : ℕ) (c : ArcColumns) {good : Bool} → good ≡ well_formed (handed n accepting m c) → good ≡ true
+    → n ≤ most_states
+few_states n accepting m c g b = ((well_formed_iff (handed n accepting m c)).0 (sym g ∙ b)).few_states

@@ -61,6 +61,7 @@ impl Automaton<'_> {
     }
 
     // 01: "Matcher: 1, 10, 11", each with place 0.
+    #[tactic(auto, using(crate::proofs::Checking::few_states))]
     pub(crate) fn check(self, work: &Work<'_>) -> Result<(), Refusal>
         ensures { refusal_in result ≡ matcher_refusal (handed_over self.entry) (lent_work work.now) }
     {
