@@ -1,4 +1,4 @@
--- What is put into a block of output, and what is handed on to be written.
+-- The room that an output needs, and what is handed on to be written.
 use Rattle.std.specs.Prelude.{ℕ, ◌+◌, ◌-◌, ◌≡◌, Bool, true, cond, ◌||◌, List, [], length, ltb, Result, Ok, Err}
 use Rattle.lines.specs.declared.failure.Failure.{Failure}
 use Rattle.lines.specs.declared.failure.Failure.TheVariants.{Read, Write}
@@ -17,25 +17,25 @@ Wrote n (Ok count) = count ≡ n
 Wrote n (Err Write) = Unit {0}
 Wrote n (Err Read) = ⊥
 
--- The whole text was handed on, and no more of it is to be written; or that failed, and the text is as it was.
+-- All that was held was handed on, and is no longer held; or that failed, and it is held still.
 abbrev pub WroteOut : List ℕ → Result ℕ Failure → List ℕ → Type 0
-WroteOut text (Ok count) text' = (count ≡ length text) × (text' ≡ [])
-WroteOut text (Err Write) text' = text' ≡ text
-WroteOut text (Err Read) text' = ⊥
+WroteOut held (Ok count) held' = (count ≡ length held) × (held' ≡ [])
+WroteOut held (Err Write) held' = held' ≡ held
+WroteOut held (Err Read) held' = ⊥
 
--- A write is due where a line might not fit after the text, or the caller would wait. Then none of it is left, and else all of it.
+-- A write is due where a line might not fit after what is held, or the caller would wait. Then none of it is left, and else all of it.
 abbrev pub due : (size used : ℕ) → Bool → Bool
 due size used waits = waits || ltb (size - used) line_room
 
 abbrev pub left_of : (size : ℕ) → List ℕ → Bool → List ℕ
-left_of size text waits = cond (due size (length text) waits) [] text
+left_of size held waits = cond (due size (length held) waits) [] held
 
 abbrev pub Roomy : (size : ℕ) → List ℕ → Bool → Result ℕ Failure → List ℕ → Type 0
-Roomy size text waits (Ok count) text' = (text' ≡ left_of size text waits) × (count + length text' ≡ length text)
-Roomy size text waits (Err Write) text' = (due size (length text) waits ≡ true) × (text' ≡ text)
-Roomy size text waits (Err Read) text' = ⊥
+Roomy size held waits (Ok count) left = (left ≡ left_of size held waits) × (count + length left ≡ length held)
+Roomy size held waits (Err Write) left = (due size (length held) waits ≡ true) × (left ≡ held)
+Roomy size held waits (Err Read) left = ⊥
 
--- The bytes of what is told of a failure.
+-- So many bytes are told of a failure.
 abbrev pub told_length : Failure → ℕ
 told_length Read = 29
 told_length Write = 30

@@ -1,4 +1,4 @@
-// Text put together in a block, and written out.
+// What a program says, put together in a block, and written out.
 
 ghost use Rattle.std.specs.Prelude.{◌≡◌, ◌+◌, ◌*◌, ◌≤◌, [], ◌++◌, length};
 ghost use Rattle.theory.specs.Lines.{number_and, row, refusal_line};
@@ -17,28 +17,28 @@ const STDOUT: i32 = 1;
 
 pub(crate) const STDERR: i32 = 2;
 
-// The used bytes of the block, which are not written out yet.
+// The used bytes of the block are held: they are to be written out.
 #[derive(Drop)]
-pub struct Text<const ROOM: usize> {
+pub struct Output<const ROOM: usize> {
     block: [u8; ROOM],
     used: usize,
 }
 
-impl<const ROOM: usize> Model for Text<ROOM> {
+impl<const ROOM: usize> Model for Output<ROOM> {
     ghost use Rattle.std.specs.Prelude.{ℕ, List, ◌≤◌, take};
 
     ghost Value = { List ℕ };
 
-    ghost view = { λ t. take t.used t.block };
+    ghost view = { λ o. take o.used o.block };
 
-    ghost invariant = { λ t. t.used ≤ ROOM };
+    ghost invariant = { λ o. o.used ≤ ROOM };
 }
 
-impl<const ROOM: usize> Text<ROOM> {
+impl<const ROOM: usize> Output<ROOM> {
     pub fn new() -> Self
         ensures { result ≡ [] }
     {
-        Text {
+        Output {
             block: [0; ROOM],
             used: 0,
         }
@@ -86,12 +86,11 @@ impl<const ROOM: usize> Text<ROOM> {
         ensures upper_bound { length self.new ≤ length self.old + line_room }
     {
         self.word(b"refused ");
-        let Refusal { cause, place } = refusal;
-        self.number(cause.number() as usize, b' ');
-        self.number(place, b'\n');
+        self.number(refusal.cause.number() as usize, b' ');
+        self.number(refusal.place, b'\n');
     }
 
-    // What a program answers. How many bytes were written.
+    // What a program answers goes out whole. How many bytes that were.
     pub fn write_out(&mut self) -> Result<usize, Failure>
         ensures { WroteOut self.old result self.new }
     {
@@ -100,7 +99,7 @@ impl<const ROOM: usize> Text<ROOM> {
         Ok(count)
     }
 
-    // Writes the text out where a line might not fit after it, or where the caller would wait.
+    // Writes out what is held where a line might not fit after it, or where the caller would wait.
     pub fn make_room(&mut self, waits: bool) -> Result<usize, Failure>
         requires { line_room ≤ ROOM }
         ensures { Roomy ROOM self.old waits result self.new }

@@ -6,18 +6,18 @@ ghost use Rattle.lines.specs.Turn.{Asks};
 
 use crate::failure::Failure;
 use crate::input::{Input, Line};
-use crate::output::Text;
+use crate::output::Output;
 use std::io::Read;
 
 // The next line. What is answered is written out before a read, and so before the end of the input.
 pub fn ask<R: Read, const SIZE: usize, const ROOM: usize>(
     input: &mut Input<R, SIZE>,
     column: &mut [u8],
-    text: &mut Text<ROOM>,
+    output: &mut Output<ROOM>,
 ) -> Result<Option<Line>, Failure>
     requires { (0 < length column.old) × (line_room ≤ ROOM) }
-    ensures { Asks input.old ROOM text.old result input.new column.new text.new }
+    ensures { Asks input.old ROOM output.old result input.new column.new output.new }
 {
-    text.make_room(input.waits())?;
+    output.make_room(input.waits())?;
     input.next_line(column)
 }

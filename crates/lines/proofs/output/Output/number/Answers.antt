@@ -1,7 +1,7 @@
 -- `number` puts the digits of the number, and then the byte: both have room.
 use Rattle.std.proofs.Common.{rules}
 use Rattle.lines.proofs.Putting.{number_text, digits_fit, byte_fits}
-use Rattle.lines.proofs.output.Text.number.Goals as goal
+use Rattle.lines.proofs.output.Output.number.Goals as goal
 
 pub word-requires : goal.word-requires
 word-requires g c =

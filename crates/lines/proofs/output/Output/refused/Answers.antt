@@ -2,7 +2,7 @@
 use Rattle.std.proofs.Common.{arith, rules}
 use Rattle.theory.specs.Lines.{space, newline, refused_word}
 use Rattle.lines.proofs.Putting.{put_length, number_short, number_long}
-use Rattle.lines.proofs.output.Text.refused.Goals as goal
+use Rattle.lines.proofs.output.Output.refused.Goals as goal
 
 pub number-requires-2 : goal.number-requires-2
 number-requires-2 g c = (

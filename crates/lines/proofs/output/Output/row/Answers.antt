@@ -2,7 +2,7 @@
 use Rattle.std.proofs.Common.{arith, rules}
 use Rattle.theory.specs.Lines.{newline}
 use Rattle.lines.proofs.Putting.{number_long, spaced_none, spaced_fits, spaced_next, row_put}
-use Rattle.lines.proofs.output.Text.row.Goals as goal
+use Rattle.lines.proofs.output.Output.row.Goals as goal
 
 pub loop-number-init : goal.loop-number-init
 loop-number-init g c = spaced_none _ _
