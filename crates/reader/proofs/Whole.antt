@@ -19,12 +19,11 @@ use Rattle.theory.specs.Column.{zeros, filled}
 use Rattle.theory.specs.Table.{Table, Row, entry, SameLengths}
 use Rattle.theory.specs.Grammar.{Text, Reading, read, refused, Reads, rows, byte_0, makes_entry}
 use Rattle.theory.specs.Scan.{token, before, after, ended, next, open_at, finish, scan}
-use Rattle.theory.specs.Read.{Due, differ, long, short, left_by, Read}
+use Rattle.theory.specs.Read.{Due, differ, long, short, left_by}
 use Rattle.theory.proofs.Scan.{at_end, at_broken, at_many, at_entry, after_all}
 use Rattle.theory.proofs.Grammar.{scan_reads}
 use Rattle.theory.proofs.Rows.{rows_length, read_fits}
 use Rattle.columns.specs.declared.cursor.Cursor.{Cursor}
-use Rattle.reader.specs.Answer.{answer}
 use Rattle.reader.specs.declared.entries.Point.{Point}
 use Rattle.reader.specs.Found.{Found, laid, Entry, start, begins, Answered, Unstarred}
 use Rattle.columns.specs.Row.{cleared}
@@ -138,31 +137,3 @@ module _ (text : Text) (t : Table) (e : SameLengths t) (l : length text ≤ long
       let fits : entries h.0 ≤ room = read_fits (subst (Reads room text) h.1 (scan_reads room text)) in
       (h.0, due_short h.1, h.2, h.3 ∙ ap (laid 0 (rows 0 h.0)) c ∙ laid_cleared h.0 t (omega (arith, m)) e.0 e.1)
   limited c (Err r) t' h = due_short h
-
--- ---- The answer
-
-module _ (text : Text) (t t' : Table) (r : Found) (h : Limited text t r t') where
-  pub read_answers : (v : ℕ × Cursor) → r ≡ Ok v → Read text t (answer (Ok v.0)) t'
-  read_answers v q =
-      let k : Limited text t (Ok v) t' = subst (λ (r' : Found). Limited text t r' t') q h in
-      record {
-        reading = read k.0;
-        due = k.1;
-        answers = ap (λ (n : ℕ). answer (Ok n)) k.2;
-        kind = ap (λ (u : Table). u.kind) k.3;
-        left = ap (λ (u : Table). u.left) k.3;
-        right = ap (λ (u : Table). u.right) k.3;
-      }
-
-  pub refused_answers : (found : Refusal) → r ≡ Err found → (t'' : Table) → t'' ≡ cleared t'
-      → length t'.kind ≡ length t.kind → length t'.left ≡ length t.left → length t'.right ≡ length t.right
-      → Read text t (answer (Err found)) t''
-  refused_answers found q t'' c k l m =
-      record {
-        reading = refused (stated found);
-        due = subst (λ (r' : Found). Limited text t r' t') q h;
-        answers = refl;
-        kind = ap (λ (u : Table). u.kind) c ∙ ap zeros k;
-        left = ap (λ (u : Table). u.left) c ∙ ap zeros l;
-        right = ap (λ (u : Table). u.right) c ∙ ap zeros m;
-      }

@@ -44,8 +44,7 @@ fn operand(text: &[u8], at: Point, table: &mut TableMut<'_>) -> Found
     let Some((byte, cursor)) = at.cursor.step(text) else {
         return Err(not_grammar(place));
     };
-    let mut after = at;
-    after.cursor = cursor;
+    let mut after = Point { cursor, ..at };
     if byte != b'(' {
         let Some(row) = entries::leaf(byte) else {
             return Err(not_grammar(place));
