@@ -9,14 +9,15 @@ use mathlib.Core.Path.{◌≡◌, refl, sym, ap, ◌∙◌, subst}
 use mathlib.Core.Logic.{⊎_elim}
 use mathlib.Core.List.Memᴰ
 use mathlib.Core.List.{List, [], ◌∷◌, ◌++◌, Memᴰ}
-use lib.ListN.{length, set, length-set}
+use lib.ListN.{length, length-set}
 use lib.Seq.{get_or-set_same, get_or-set_other}
 use Rattle.theory.specs.Expression.{Expression, same, ∅, ε}
 use Rattle.theory.specs.Distinct.{NoRepeats, Within, place}
-use Rattle.theory.specs.Table.{Table, Row, table, row, Sound, trees, tree_at, row_tree}
+use Rattle.theory.specs.Table.{Table, Row, row, Sound, trees, tree_at, row_tree}
 use Rattle.theory.proofs.Distinct.{place_of}
 use Rattle.theory.proofs.Trees.{trees_length, trees_below, trees_kept, tree_kept, trees_of, to_trees}
 use Rattle.theory.proofs.Sound.{row_told, row_tree_cong}
+use Rattle.columns.specs.Table.{with_row}
 use Rattle.derive.specs.Rows.{Rows, SoundTo, Grown}
 
 -- ---- A row and its tree
@@ -91,10 +92,6 @@ no_repeats_more (x ∷ xs) y once new = (
   λ m. ⊎_elim once.0 (λ k. new (Memᴰ.head (sym (Memᴰ.eq_of_singleton k)))) (Memᴰ.append_cases xs m),
   no_repeats_more xs y once.1 (λ m. new (Memᴰ.tail m)),
 )
-
--- t with w at row n
-abbrev pub with_row : Table → ℕ → Row → Table
-with_row t n w = table (set t.kind n w.kind) (set t.left n w.left) (set t.right n w.right)
 
 module _ (t : Table) (n : ℕ) (w : Row) where
   row_away : (i : ℕ) → (i ≡ n → ⊥) → row (with_row t n w) i ≡ row t i

@@ -12,9 +12,10 @@ use Rattle.theory.specs.Table.{Table, Row, row, Sound, trees, tree_at, row_tree}
 use Rattle.theory.proofs.Trees.{trees_of}
 use Rattle.std.specs.Prelude.{Some, None, Ok, Err}
 use Rattle.derive.specs.declared.rows.NoRoom.{NoRoom}
+use Rattle.columns.specs.Table.{with_row}
 use Rattle.derive.specs.Rows.{Fitted, Passed, FirstRow, Came, Interns}
 use Rattle.derive.proofs.Coming.{came_none}
-use Rattle.derive.proofs.Growing.{rows_tree, row_found, with_row, new_tree, one_more, one_more_within}
+use Rattle.derive.proofs.Growing.{rows_tree, row_found, new_tree, one_more, one_more_within}
 
 -- The tree of a row that is there.
 pub intern_there : {t : Table} {n room : ℕ} {e : Expression} {i : ℕ} → Fitted t n room → i < n → tree_at t i ≡ e → Interns t n room e (Ok i) t n

@@ -135,6 +135,10 @@ module _ {t : Table} {n i : ℕ} {x y : Option Side} (k : TwoSides t n i x y) wh
     pub left_has : Within (side_list a t x) (derivative a (tree_at t i))
     left_has z m = subst (Memᴰ z) (sym lists) (to_distinct same _ z (Memᴰ.append_left _ m))
 
+    -- What the left side has.
+    pub left_tells : (z : Expression) {b : Bool} → b ≡ true → Memᴰ z (side_list a t x) → Tells b (Memᴰ z (derivative a (tree_at t i)))
+    left_tells z e m = subst (λ d. Tells d (Memᴰ z (derivative a (tree_at t i)))) (sym e) (left_has z m)
+
     pub right_has : Within (side_list a t y) (derivative a (tree_at t i))
     right_has z m = subst (Memᴰ z) (sym lists) (to_distinct same _ z (Memᴰ.append_right (side_list a t x) m))
 

@@ -19,22 +19,13 @@ use Rattle.columns.specs.declared.row.Children.{Children}
 use Rattle.columns.specs.declared.row.Children.TheVariants.{Nothing, One, Two}
 use Rattle.derive.specs.declared.rows.NoRoom.{NoRoom}
 use Rattle.derive.specs.Rows.{Fitted, Came, Held, Short, Interns, Takes}
-use Rattle.derive.proofs.Coming.{came_none, came_for, came_then, short_for, short_then, answered_as, answered_then}
+use Rattle.derive.proofs.Coming.{came_none, came_for, came_then, short_for, short_then, answered_then}
 use Rattle.derive.proofs.Growing.{grown_tree}
 use Rattle.derive.proofs.Reading.{Read, leaf_read, star_read, star_with, sign_read}
-
--- ---- What an answer says
 
 -- The tree e is taken over as row i.
 abbrev pub Took : Table → ℕ → ℕ → Expression → ℕ → Table → ℕ → Type 0
 Took t n room e = Held t n room (λ z. Memᴰ z (parts e)) (λ z. z ≡ e)
-
-pub took : {t t' : Table} {n room : ℕ} {e : Expression} {r : Result ℕ NoRoom} {i n' : ℕ} → r ≡ Ok i → Takes t n room e r t' n' → Took t n room e i t' n'
-took q h = (answered_as q h).answer
-
-pub took_not : {t t' : Table} {n n' room : ℕ} {e : Expression} {r : Result ℕ NoRoom} {x : NoRoom} → r ≡ Err x → Takes t n room e r t' n'
-    → Short t n room (λ z. Memᴰ z (parts e)) t'
-took_not q h = (answered_as q h).answer
 
 -- ---- A tree after its parts
 

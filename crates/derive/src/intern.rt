@@ -45,18 +45,18 @@ impl Rows<'_> {
         ensures interns { Interns (rows_table self.old) self.old.used self.old.room
             (row_tree (as_row w) (trees (rows_table self.old) self.old.used)) result (rows_table self.new) self.new.used }
     {
-        let row = self.used;
-        if let Some(row) = find(self.view(), search_start(w), row, w) {
+        let used = self.used;
+        if let Some(row) = find(self.view(), search_start(w), used, w) {
             return Ok(row);
         }
-        if self.room <= row {
+        if self.room <= used {
             return Err(NoRoom);
         }
-        self.kind[row] = w.kind;
-        self.left[row] = w.left;
-        self.right[row] = w.right;
-        self.used = row + 1;
-        Ok(row)
+        self.kind[used] = w.kind;
+        self.left[used] = w.left;
+        self.right[used] = w.right;
+        self.used = used + 1;
+        Ok(used)
     }
 }
 

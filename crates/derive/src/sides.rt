@@ -107,45 +107,21 @@ impl Rows<'_> {
     }
 }
 
-// The member of a pair, as a row, where the tree beside it is `other`. A join with the literal empty word is never made, though the
+// The member of the row w, where w is a join with the side's other tree. A join with the literal empty word is never made, though the
 // given expression may hold one.
-fn kept(signed: bool, member: usize, o: usize, other: usize) -> Option<usize>
-    ensures { result ≡ choose (signed && eqb o other && not (eqb member 0)) (Some member) None }
-{
-    if signed & (o == other) & (member != 0) {
-        Some(member)
-    } else {
-        None
-    }
-}
-
-// The member of the row w, where w is a join with the side's other tree.
 #[tactic(auto, unfolding(crate::specs::Sides::parted, theory::specs::Table::kind_of_sign))]
 fn parted(w: Row, side: Side) -> Option<usize>
     ensures { result ≡ parted (as_row w) side.join side.other }
 {
     let x = w.left as usize;
     let y = w.right as usize;
-    match side.join {
-        Join::Followed => kept(
-            w.kind == Kind::Sign(Sign::Concatenation).number(),
-            x,
-            y,
-            side.other,
-        ),
-        Join::Shuffled => kept(
-            w.kind == Kind::Sign(Sign::Shuffle).number(),
-            x,
-            y,
-            side.other,
-        ),
-        Join::Shuffles => kept(
-            w.kind == Kind::Sign(Sign::Shuffle).number(),
-            y,
-            x,
-            side.other,
-        ),
-    }
+    let (sign, member, other) = match side.join {
+        Join::Followed => (Sign::Concatenation, x, y),
+        Join::Shuffled => (Sign::Shuffle, x, y),
+        Join::Shuffles => (Sign::Shuffle, y, x),
+    };
+    let signed = w.kind == Kind::Sign(sign).number();
+    (signed && other == side.other && member != 0).then_some(member)
 }
 
 // The member whose join with the side's other tree is the row p.

@@ -24,10 +24,8 @@ fn has(table: Table<'_>, letter: u8, row: usize, member: usize) -> bool
     if w.kind == Kind::Letter.number() {
         return (w.left == letter as u16) & (member == 0);
     }
-    if side_has(table, letter, left_side(table, row), member) {
-        return true;
-    }
-    side_has(table, letter, right_side(table, row), member)
+    side_has(table, letter, left_side(table, row), member)
+        || side_has(table, letter, right_side(table, row), member)
 }
 
 // A side's list is its child's, each member joined with the side's other tree.
@@ -79,7 +77,7 @@ pub fn step(
 fn letter_step(met: bool, after: Option<usize>) -> Option<usize>
     ensures { result ≡ letter_step met after }
 {
-    if met & after.is_none() { Some(0) } else { None }
+    (met && after.is_none()).then_some(0)
 }
 
 // The start of the list and each member of the left side are walked there.

@@ -1,7 +1,7 @@
 -- Whether a tree is a member of a derivative's list: `has` asks a row's two sides, `side_has` the child under a side.
 use Rattle.std.proofs.Common.{refl, ap, ◌∙◌, arith}
 use Rattle.derive.proofs.Growing.{rows_sound_to}
-use Rattle.derive.proofs.Membership.{weight, letter_tells, two_sides, left_within, right_within, left_less, right_less, left_has, right_tells, lower_told, child_within, outside_tells, member_within, member_tells}
+use Rattle.derive.proofs.Membership.{weight, letter_tells, two_sides, left_within, right_within, left_less, right_less, left_tells, right_tells, lower_told, child_within, outside_tells, member_within, member_tells}
 use Rattle.derive.proofs.walk.+has_side_has.Goals as goal
 
 -- ---- A row's list
@@ -23,24 +23,24 @@ has-side_has-requires t c =
 
 pub has-returns-then-side_has : goal.has-returns-then-side_has
 has-returns-then-side_has t c =
-    left_has (two_sides c.requires.rows c.requires.row_in refl c.row-w.ensures c.if-w-number.false c.number.ensures c.left_side.ensures refl) _ _
-    c.if-side_has.ensures
+    left_tells (two_sides c.requires.rows c.requires.row_in refl c.row-w.ensures c.if-w-number.false c.number.ensures c.left_side.ensures refl) _ _
+    c.if-side_has.true c.if-side_has.ensures
 
 pub has-right_side-requires : goal.has-right_side-requires
 has-right_side-requires t c = rows_sound_to c.requires.rows c.requires.row_in
 
-pub has-side_has-requires-2 : goal.has-side_has-requires-2
-has-side_has-requires-2 t c =
+pub has-side_has-requires-else-side_has : goal.has-side_has-requires-else-side_has
+has-side_has-requires-else-side_has t c =
     let k = two_sides c.requires.rows c.requires.row_in refl c.row-w.ensures c.if-w-number.false c.number.ensures c.left_side.ensures c.right_side.ensures in (
       omega (arith, right_less k),
       record { count = c.requires.count; rows = c.requires.rows; side_in = right_within k; member_in = c.requires.member_in },
     )
 
-pub has-returns : goal.has-returns
-has-returns t c =
+pub has-returns-else-side_has : goal.has-returns-else-side_has
+has-returns-else-side_has t c =
     right_tells
     (two_sides c.requires.rows c.requires.row_in refl c.row-w.ensures c.if-w-number.false c.number.ensures c.left_side.ensures c.right_side.ensures) _ _
-    c.side_has-2.result c.if-side_has.ensures c.side_has-2.ensures
+    c.side_has-else-side_has.result c.if-side_has.ensures c.side_has-else-side_has.ensures
 
 -- ---- A side's list
 
