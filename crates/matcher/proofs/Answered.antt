@@ -19,7 +19,8 @@ use Rattle.std.specs.Prelude.{Option, Some, None}
 use Rattle.sets.specs.Bits.{bit}
 use Rattle.matcher.specs.Moves.{place_of, Checked, Ended}
 
-module _ (h : Handed) {k : Work} (c : Checked h.states h.arcs k) {w : Word} {died : Option ℕ} {current : List ℕ} (e : Ended h.arcs w died current) where
+module _ (h : Handed) {k : Work} (c : Checked h.states h.arcs k) {w : Word} {died : Option ℕ} {current : List ℕ}
+    (e : Ended h.arcs w died current) where
   pub answered_wrong : {p : ℕ} → died ≡ Some p → given (wrong p) 0 ≡ given (verdict h w) (live h w)
   answered_wrong {p} d =
       let dead : dead_at h.arcs start 0 w ≡ some p = sym e.place ∙ ap place_of d in

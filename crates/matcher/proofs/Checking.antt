@@ -39,6 +39,7 @@ module _ (h : Handed) (k : Work) {even : Bool} (e : (even ≡ true) ↔ EvenArcs
       pub unrefused : (ltb (length k.current) m || ltb (length k.next) m) ≡ false → success ≡ matcher_refusal h k
       unrefused s = sym (refusal_by h k (even_by h.arcs.columns e q) (sym g ∙ b) (short_by k h.states n s))
 
+-- A well-formed automaton's states are few enough for the count of words.
 pub few_states : (n : ℕ) (accepting : List ℕ) (m : ℕ) (c : ArcColumns) {good : Bool} → good ≡ well_formed (handed n accepting m c) → good ≡ true
     → n ≤ most_states
 few_states n accepting m c g b = ((well_formed_iff (handed n accepting m c)).0 (sym g ∙ b)).few_states

@@ -1,12 +1,12 @@
 -- From the refusal, or from the walk's answer, to the judgement; and what a walk starts from where nothing is refused.
 use Prim.Native.Nat.{ℕ, ◌≤◌}
 use native.Mathlib.Omega.{arith}
-use Rattle.std.proofs.Common.{rules}
 use mathlib.Core.Path.{◌≡◌, sym, ap, ◌∙◌}
 use mathlib.Core.Bool.{Bool, ◌||◌}
 use mathlib.Core.List.{List}
 use lib.ListN.{length}
 use lib.Dec.{eqb}
+use Rattle.std.proofs.Common.{rules}
 use Rattle.theory.specs.Language.{Word}
 use Rattle.theory.specs.Refusal.{Refusal, success}
 use Rattle.theory.specs.Stated.{number, stated}

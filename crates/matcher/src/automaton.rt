@@ -21,6 +21,7 @@ pub struct Automaton<'a> {
     pub arcs: Arcs<'a>,
 }
 
+// The tests of a loop are joined by `&`: the loop has no branch.
 impl Automaton<'_> {
     fn accepting_fits(self) -> bool
         requires { self.states ≤ length self.accepting.now }

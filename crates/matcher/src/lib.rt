@@ -5,7 +5,6 @@
 pub mod automaton;
 mod moves;
 
-ghost use Rattle.theory.specs.Record.{cleared};
 ghost use Rattle.theory.specs.Judge.{Judged};
 ghost use Rattle.columns.specs.Work.{lent_work, SameWork};
 ghost use Rattle.matcher.specs.Answer.{values};

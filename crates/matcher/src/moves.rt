@@ -41,6 +41,7 @@ fn walk(automaton: Automaton<'_>, record: &[u8], work: &mut Work<'_>) -> Option<
     ensures ended { Ended (handed_over automaton.entry).arcs «record».now result work.new.current.now }
 {
     let words = sets::words(automaton.states);
+    // Taken out of the struct once, so that a bit that is set does not make the loops read it anew.
     let current = &mut *work.current;
     let next = &mut *work.next;
     let mut cursor = Cursor::start();

@@ -18,4 +18,6 @@ module _ (words : List ℕ) (fits : (i : ℕ) → get_or words i 0 < 2 ^ 64) whe
   counted zero l = refl
   counted (suc n) l =
       subst (λ (k : ℕ). sum_by ones (take k words) ≡ count_below (k * 64) (bit words)) (add-one n)
-      (sum_by_more ones words n 0 (omega arith) ∙ ap (λ (m : ℕ). m + ones (get_or words n 0)) (counted n (omega arith)) ∙ sym (count_block words n (fits n)))
+      (sum_by_more ones words n 0 (omega arith)
+      ∙ ap (λ (m : ℕ). m + ones (get_or words n 0)) (counted n (omega arith))
+      ∙ sym (count_block words n (fits n)))

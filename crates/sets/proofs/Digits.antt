@@ -95,7 +95,8 @@ unfolding some_below
 word_set zero v l = ap not (eq-eqb v 0 (omega arith))
 word_set (suc k) v l =
     zero_or v
-    ∙ ap₂ ◌||◌ (sym (low_digit v)) (word_set k (v / 2) (half_below k v l) ∙ some_cong k (digit (v / 2)) (λ j. digit v (suc j)) (λ j _. sym (digit_suc v j)))
+    ∙ ap₂ ◌||◌ (sym (low_digit v))
+    (word_set k (v / 2) (half_below k v l) ∙ some_cong k (digit (v / 2)) (λ j. digit v (suc j)) (λ j _. sym (digit_suc v j)))
     ∙ sym (some_front k (digit v))
 
 -- The count of a word's ones is the count of its set digits.

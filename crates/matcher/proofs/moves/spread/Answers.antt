@@ -4,7 +4,8 @@ use Rattle.theory.specs.Arcs.{moved}
 use Rattle.sets.specs.Bits.{bit}
 use Rattle.matcher.proofs.Spread.{spread_none, spread_other, spread_unset, spread_set, spread_end}
 use Rattle.matcher.proofs.moves.spread.Goals as goal
-use Rattle.matcher.proofs.moves.spread.Goals.{then-letter-i+then-marked, else-letter-i, else-letter-i-via-then-letter-i+else-marked, else-letter-i-via-else-letter-i}
+use Rattle.matcher.proofs.moves.spread.Goals.{then-letter-i+then-marked, else-letter-i}
+use Rattle.matcher.proofs.moves.spread.Goals.{else-letter-i-via-then-letter-i+else-marked, else-letter-i-via-else-letter-i}
 
 pub loop-i-init : goal.loop-i-init
 loop-i-init c = spread_none
