@@ -11,7 +11,7 @@ use lib.ListN.{length, get_or, take, set, length-set, length-append}
 use lib.Seq.{slice, slice_empty, slice-cons, length-slice, length-take-le, take-suc, take-suc-set, take_all}
 use lib.Dec.{eqb}
 use borrow.Author.Tests.{eqb-true, eqb-false}
-use Rattle.std.specs.Prelude.{Option, None, Some, Result, Ok, Err}
+use Rattle.std.specs.Prelude.{Option, None, Some, Ok, Err}
 use Rattle.theory.specs.Lines.{newline}
 use Rattle.lines.specs.declared.failure.Failure.{Failure}
 use Rattle.lines.specs.declared.failure.Failure.TheVariants.{Read, Write}
