@@ -1,6 +1,6 @@
 -- Where a newline stands among the bytes that are not taken yet, and the column holds the bytes before it, all is settled: the line is those
 -- bytes, the block stays as it is, and the next line begins after the newline. What a read would put into the block plays no part.
-use Prim.Native.Nat.{ℕ, ◌+◌, ◌≤◌, ◌<◌}
+use Prim.Native.Nat.{ℕ, ◌≤◌, ◌<◌}
 use native.Mathlib.Omega.{arith}
 use mathlib.Core.Path.{◌≡◌, refl, sym, ap, ap₂, ◌∙◌, subst}
 use mathlib.Core.Logic.{inl, inr}

@@ -8,15 +8,15 @@ use mathlib.Core.Logic.{◌⊎◌, inl, inr, ⊎_elim}
 use mathlib.Core.List.Memᴰ
 use mathlib.Core.List.{List, [], ◌∷◌, ◌++◌, append-nil, append_assoc, Memᴰ}
 use lib.ListN.{length, get_or, take, set, length-set, length-append}
-use lib.Seq.{slice, slice_empty, slice-cons, length-slice, length-take-le, take-suc, take-suc-set, take_all}
+use lib.Seq.{slice, slice_empty, slice-cons, length-slice, length-take-le, take-suc, take-suc-set}
 use lib.Dec.{eqb}
 use borrow.Author.Tests.{eqb-true, eqb-false}
-use Rattle.std.specs.Prelude.{Option, None, Some, Result, Ok, Err}
+use Rattle.std.specs.Prelude.{Option, None, Some, Ok, Err}
 use Rattle.theory.specs.Lines.{newline}
 use Rattle.lines.specs.declared.failure.Failure.{Failure}
 use Rattle.lines.specs.declared.failure.Failure.TheVariants.{Read, Write}
 use Rattle.lines.specs.declared.input.Line.{Line}
-use Rattle.lines.specs.declared.input.Line.TheVariants.{Ended, Full}
+use Rattle.lines.specs.declared.input.Line.TheVariants.{Ended}
 use Rattle.lines.specs.Input.{Input, input_of, Taken, Nexts, Unbroken, last, Took, Passes}
 
 -- ---- Bytes taken
@@ -149,11 +149,6 @@ module _ {column₀ column : List ℕ} {input₀ input : Input} {n : ℕ} (s : S
           unbroken = subst Unbroken (sym more) (unbroken_more s.unbroken d);
           taken = subst (λ (x : List ℕ). Taken input₀ x input') (sym more) (taken_then s.taken t);
         }
-
-  pub line_full : length column ≤ n → Took input₀ (Ok (Some Full)) input column
-  line_full l =
-      let whole : take n column ≡ column = take_all n column l in
-      record { holds = (subst Unbroken whole s.unbroken, subst (λ (x : List ℕ). Taken input₀ x input) whole s.taken) }
 
   -- The input ends, or a read fails, where the block is used up.
   pub line_last : {input' : Input} → (input.untaken ≡ []) × (input'.untaken ≡ []) → n < length column₀ → {line : Option Line} → line ≡ last n

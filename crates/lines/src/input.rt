@@ -48,6 +48,7 @@ impl<R: Read, const SIZE: usize> Input<R, SIZE> {
     }
 
     // Whether the next line needs a read: no newline stands among the bytes that are not taken yet.
+    #[tactic(auto, using(crate::proofs::Waiting::waits_is))]
     pub fn waits(&self) -> bool
         ensures { Waits self.now result }
     {
@@ -90,7 +91,7 @@ impl<R: Read, const SIZE: usize> Input<R, SIZE> {
     fn rest(&mut self) -> Result<(), Failure>
         ensures { Passes self.old result self.new }
     {
-        // So no more bytes are untaken than the block has.
+        // No more bytes are untaken than the block has: the proof learns it where a field is used.
         let _ = &self.end;
         for _ in 0..u64::MAX {
             let Some(byte) = self.take_byte()? else {
@@ -104,6 +105,7 @@ impl<R: Read, const SIZE: usize> Input<R, SIZE> {
     }
 
     // The next line to its end: of one that fills the column the rest is passed over.
+    #[tactic(auto, using(crate::proofs::WholeLine::with_rest, crate::proofs::WholeLine::without_rest))]
     pub fn next_line(&mut self, column: &mut [u8]) -> Result<Option<Line>, Failure>
         requires { 0 < length column.old }
         ensures { TookWhole self.old result self.new column.new }

@@ -1,4 +1,4 @@
-// Lines from standard input, by way of a block that holds what was read, and lines to standard output, by way of one that holds what will be written.
+// Lines from standard input and lines to standard output, each by way of a block.
 
 #![tactic(auto)]
 

@@ -26,5 +26,6 @@ loop-preserved g c =
 
 pub returns : goal.returns
 returns g c =
-    let short = subst (λ (i : Input). length i.untaken ≤ c.self.inside.end) c.self.view_is (untaken_short c.self.inside.block c.self.inside.at (search rules)) in
+    let block = c.self.inside.block in
+    let short = subst (λ (i : Input). length i.untaken ≤ c.self.inside.end) c.self.view_is (untaken_short block c.self.inside.at (search rules)) in
     rest_endless c.loop.invariant (omega (arith, short, c.self.ranges, c.loop-test.false))

@@ -1,5 +1,5 @@
 -- `take_byte` takes the next byte of the block, or fills the block, and takes the first byte that came.
-use Rattle.std.proofs.Common.{ℕ, Option, Ok, [], ◌≡◌, subst, arith, rules}
+use Rattle.std.proofs.Common.{ℕ, Option, Ok, [], ◌≡◌, subst, rules}
 use Rattle.lines.specs.Input.{Input, Fills}
 use Rattle.lines.proofs.Taking.{used_up, taken_here, taken_read}
 use Rattle.lines.proofs.input.Input.take_byte.Goals.{then-self+in_ok-end+in-Some, else-self}

@@ -1,6 +1,6 @@
 -- `take_line` stores the bytes that it takes up to a newline, as far as the column holds them.
 use Rattle.std.proofs.lemmas.Result.{err_from_is_err_and}
-use Rattle.lines.proofs.Taking.{next_as, stored_none, stored_byte, line_ended, line_last, line_full, line_failed}
+use Rattle.lines.proofs.Taking.{next_as, stored_none, stored_byte, line_ended, line_last, line_failed}
 use Rattle.lines.proofs.input.Input.take_line.Goals as goal
 
 pub loop-length-init : goal.loop-length-init

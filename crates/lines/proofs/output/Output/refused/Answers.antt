@@ -8,17 +8,17 @@ pub number-requires-2 : goal.number-requires-2
 number-requires-2 g c = (
   search rules,
   let said = put_length c.args.self.now refused_word c.word.ensures in
-  let short = number_short c.number.result space (omega (arith, c.number.type_inv)) in
-  omega (arith, c.requires),
+      let short = number_short c.number.result space (omega (arith, c.number.type_inv)) in
+      omega (arith, c.requires),
 )
 
 pub number-requires-3 : goal.number-requires-3
 number-requires-3 g c = (
   search rules,
   let said = put_length c.args.self.now refused_word c.word.ensures in
-  let numbered = number_long c.word.new.self c.number.result space (omega (arith, c.number.type_inv)) c.number-2.ensures in
-  let short = number_short c.args.refusal.place newline (search rules) in
-  omega (arith, c.requires),
+      let numbered = number_long c.word.new.self c.number.result space (omega (arith, c.number.type_inv)) c.number-2.ensures in
+      let short = number_short c.args.refusal.place newline (search rules) in
+      omega (arith, c.requires),
 )
 
 pub returns-clause-upper_bound : goal.returns-clause-upper_bound
