@@ -1,6 +1,6 @@
 // The two columns of states, to write.
 
-ghost use Rattle.std.specs.Prelude.{◌≡◌, length};
+ghost use Rattle.std.specs.Prelude.{◌≡◌, ◌↔◌, IsTrue, length};
 ghost use Rattle.theory.specs.Column.{zeros};
 ghost use Rattle.columns.specs.States.{SameStates};
 
@@ -12,6 +12,13 @@ pub struct StatesMut<'a> {
 }
 
 impl StatesMut<'_> {
+    // 01, refusal 1: "columns of one table differ in length".
+    pub fn is_even(&self) -> bool
+        ensures { IsTrue result ↔ (length self.now.accepting.now ≡ length self.now.expression.now) }
+    {
+        self.accepting.len() == self.expression.len()
+    }
+
     // 01: "sets all lent output and work columns to zero".
     pub fn clear(&mut self)
         ensures same { SameStates self.old self.new }
