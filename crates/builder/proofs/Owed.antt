@@ -22,7 +22,7 @@ use Rattle.table.specs.declared.Checked.TheVariants as Checks
 use Rattle.builder.specs.Answer.{answer}
 use Rattle.builder.specs.Progress.{Progress, Roomy, Exceeds, Blank}
 use Rattle.builder.specs.declared.Building.TheVariants.{Refused, Built}
-use Rattle.builder.specs.declared.arcs.Counts.{Counts}
+use Rattle.builder.specs.Columns.{Counts}
 use Rattle.builder.proofs.Lengths.{SameLengths, no_arcs_same, cleared_lengths}
 use Rattle.builder.proofs.Finishing.{all_states, all_rows, all_arcs, stands}
 

@@ -29,7 +29,7 @@ use Rattle.derive.specs.Rows.{Rows, Short, SoundTo}
 use Rattle.derive.proofs.Coming.{short_exceeds}
 use Rattle.derive.proofs.Taking.{Took}
 use Rattle.builder.specs.Progress.{Progress, Exceeds, Begins, Blank, Standing, Started}
-use Rattle.builder.specs.declared.arcs.Counts.{Counts}
+use Rattle.builder.specs.Columns.{Counts}
 use Rattle.builder.proofs.Adding.{names_more}
 use Rattle.builder.proofs.Lengths.{SameLengths}
 

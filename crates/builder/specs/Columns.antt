@@ -28,6 +28,10 @@ used_in r s a = record { rows = r.used; states = s.used; arcs = a.used }
 abbrev pub rooms_in : Rows → States → Arcs → Counts
 rooms_in r s a = record { rows = r.room; states = s.room; arcs = a.room }
 
+-- The rooms for rows and states, beside one for n arcs.
+abbrev pub rooms_at : Rows → States → ℕ → Counts
+rooms_at r s n = record { rows = r.room; states = s.room; arcs = n }
+
 -- 01: "Rooms: table length, or 65,535 for expressions and states and 16,777,216 for arcs if that is smaller."
 abbrev pub rooms_of : Lent → Counts
 rooms_of c = record { rows = expression_room c; states = state_room c; arcs = arc_room c }
@@ -49,15 +53,12 @@ abbrev pub FirstEqual : List ℕ → ℕ → ℕ → Option ℕ → Type 0
 FirstEqual column n x (Some i) = (i < n) × (get_or column i 0 ≡ x) × ((j : ℕ) → j < i → get_or column j 0 ≡ x → ⊥)
 FirstEqual column n x None = (j : ℕ) → j < n → get_or column j 0 ≡ x → ⊥
 
--- A state more behind the others, or no room for it.
-abbrev pub StateAdded : States → (row flag : ℕ) → Result ℕ NoRoom → States → Type 0
-StateAdded s row flag (Ok j) s' =
-    (s.used < s.room) × (j ≡ s.used) × (s'.expression.now ≡ set s.expression.now s.used row) × (s'.accepting.now ≡ set s.accepting.now s.used flag)
-    × (s'.used ≡ s.used + 1)
-StateAdded s row flag (Err e) s' =
-    (s.room ≤ s.used) × (s'.expression.now ≡ s.expression.now) × (s'.accepting.now ≡ s.accepting.now) × (s'.used ≡ s.used)
+-- A state more behind the first n of two columns, or no room for it.
+abbrev pub StateAdded : (room n : ℕ) → (expression accepting : List ℕ) → (row flag : ℕ) → Result ℕ NoRoom → ℕ → (expression' accepting' : List ℕ) → Type 0
+StateAdded room n x f row flag (Ok j) n' x' f' = (n < room) × (j ≡ n) × (x' ≡ set x n row) × (f' ≡ set f n flag) × (n' ≡ n + 1)
+StateAdded room n x f row flag (Err e) n' x' f' = (room ≤ n) × (x' ≡ x) × (f' ≡ f) × (n' ≡ n)
 
--- An arc more behind the others, or no room for it.
-abbrev pub ArcAdded : Arcs → Arc → Result Unit NoRoom → Arcs → Type 0
-ArcAdded a z (Ok _) a' = (a.used < a.room) × (arcs_of a' ≡ with_arc (arcs_of a) a.used z) × (a'.used ≡ a.used + 1)
-ArcAdded a z (Err e) a' = (a.room ≤ a.used) × (arcs_of a' ≡ arcs_of a) × (a'.used ≡ a.used)
+-- An arc more behind the first n, or no room for it.
+abbrev pub ArcAdded : (room n : ℕ) → ArcColumns → Arc → Result Unit NoRoom → ℕ → ArcColumns → Type 0
+ArcAdded room n c z (Ok u) n' c' = (n < room) × (c' ≡ with_arc c n z) × (n' ≡ n + 1)
+ArcAdded room n c z (Err e) n' c' = (room ≤ n) × (c' ≡ c) × (n' ≡ n)

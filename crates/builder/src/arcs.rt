@@ -22,7 +22,7 @@ impl Arcs<'_> {
         requires spans { Spans (arcs_of self.old) self.old.room }
         requires narrow { (i < 65536) × (j < 65536) }
         ensures same { SameArcs self.old self.new }
-        ensures added { ArcAdded self.old (arc i a j) result self.new }
+        ensures added { ArcAdded self.old.room self.old.used (arcs_of self.old) (arc i a j) result self.new.used (arcs_of self.new) }
     {
         let n = self.used;
         if self.room <= n {

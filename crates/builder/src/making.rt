@@ -1,15 +1,14 @@
 // State 0, and all that is met from it on.
 
-ghost use Rattle.std.specs.Prelude.{◌≡◌};
+ghost use Rattle.std.specs.Prelude.{◌≡◌, ℕ};
 ghost use Rattle.theory.specs.Table.{tree, table_refusal};
 ghost use Rattle.columns.specs.Table.{read_table, SameTable};
 ghost use Rattle.columns.specs.States.{SameStates as SameLentStates};
 ghost use Rattle.columns.specs.Arcs.{SameArcs as SameLentArcs};
 ghost use Rattle.columns.specs.Lent.{lent_all};
-ghost use Rattle.derive.specs.Rows.{SameRows};
-ghost use Rattle.builder.specs.Answer.{counted};
-ghost use Rattle.builder.specs.Columns.{held, used_in, rooms_in, rooms_of, SameStates, SameArcs};
-ghost use Rattle.builder.specs.Progress.{Ready, Meets, Met, Started, Knows, Reaches, Begins, Begun, Blank, root};
+ghost use Rattle.derive.specs.Rows.{rows_table, SameRows};
+ghost use Rattle.builder.specs.Columns.{held, used_in, rooms_in, rooms_at, rooms_of, SameStates, SameArcs};
+ghost use Rattle.builder.specs.Progress.{Ready, Meets, Met, Started, Knows, Reaches, Makes, Begins, Begun, Blank, root};
 
 use super::Counts;
 use super::arcs::Arcs;
@@ -70,10 +69,12 @@ pub fn make(
 // State 0: the literal empty word as row 0, the given expression after it.
 fn start(given: Table<'_>, rows: &mut Rows<'_>, states: &mut States<'_>) -> Result<(), NoRoom>
     requires right_value { (table_refusal (read_table given)).number ≡ 0 }
-    requires begins { Begins rows.old states.old }
+    requires begins { (n : ℕ) → Begins (rooms_at rows.old states.old n) (rows_table rows.old) states.old.expression.now states.old.accepting.now }
+    requires none { states.old.used ≡ 0 }
     ensures same_rows { SameRows rows.old rows.new }
     ensures same_states { SameStates states.old states.new }
-    ensures begun { Begun (tree (read_table given.entry)) result rows.new states.new }
+    ensures begun { (n : ℕ) → Begun (tree (read_table given.entry)) (rooms_at rows.old states.old n) result
+        (record { rows = rows.new.used; states = states.new.used; arcs = 0 }) (rows_table rows.new) states.new.expression.now states.new.accepting.now }
 {
     if rows.room == 0 {
         return Err(NoRoom);
@@ -142,9 +143,9 @@ fn meet(
         (rooms_in rows.now states.old arcs.old) i a row result (used_in rows.now states.new arcs.new)
         (held rows.now states.new arcs.new) }
 {
-    let state = match states.find(row) {
-        Some(j) => j,
-        None => states.add(row, empty_word(rows.view(), row))?,
-    };
-    arcs.add(i, a, state)
+    if let Some(j) = states.find(row) {
+        return arcs.add(i, a, j);
+    }
+    let j = states.add(row, empty_word(rows.view(), row))?;
+    arcs.add(i, a, j)
 }

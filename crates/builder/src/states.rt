@@ -29,7 +29,8 @@ impl States<'_> {
         requires spans { (self.old.room ≤ length self.old.expression.now) × (self.old.room ≤ length self.old.accepting.now) }
         requires narrow { row < 65536 }
         ensures same { SameStates self.old self.new }
-        ensures added { StateAdded self.old row (cond accepts 1 0) result self.new }
+        ensures added { StateAdded self.old.room self.old.used self.old.expression.now self.old.accepting.now row (cond accepts 1 0) result
+            self.new.used self.new.expression.now self.new.accepting.now }
     {
         let state = self.used;
         if self.room <= state {
