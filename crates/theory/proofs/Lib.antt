@@ -40,3 +40,4 @@ pub mod MatcherRefusal
 pub mod Verdicts
 pub mod RoomReport
 pub mod Places
+pub mod Stated
