@@ -2,11 +2,11 @@
 use Prim.Native.Nat.{ℕ, suc, ◌+◌, ◌≤◌, ◌<◌}
 use native.Mathlib.Nat.{le_trans, lt_of_lt_of_le}
 use native.Mathlib.Omega.{arith}
-use mathlib.Core.Path.{◌≡◌, refl, sym, ap, ap₂, ◌∙◌, subst}
-use mathlib.Core.Bool.{cond}
+use mathlib.Core.Path.{◌≡◌, refl, sym, ap, ◌∙◌, subst}
+use mathlib.Core.Bool.{Bool, true, false, cond, true≢false}
 use mathlib.Core.List.{List}
 use lib.ListN.{length, set, length-set}
-use Rattle.std.specs.Prelude.{Some, None, Result, Ok, Err}
+use Rattle.std.specs.Prelude.{Some, None, Result, Ok, Err, IsErr}
 use Rattle.theory.specs.Derivative.{empty_word}
 use Rattle.theory.specs.Table.{Table, tree_at}
 use Rattle.derive.specs.Rows.{Rows, SoundTo}
@@ -59,9 +59,11 @@ module _ {c : Lent} {rooms k : Counts} {i a r : ℕ} (h : Ready c rooms k) (q : 
   no_arc : rooms.arcs ≤ k.arcs → {x : NoRoom} {k' : Counts} {c' : Lent} → k'.rows ≡ k.rows → Met c k rooms i a r (Err x) k' c'
   no_arc full e = record { goes = arc_exceeds h.progress i a r q.row q.next rooms full; kept = e }
 
-  pub no_state : FirstEqual c.expression k.states r None → rooms.states ≤ k.states → {x : NoRoom} {k' : Counts} {c' : Lent} → k'.rows ≡ k.rows
-      → Met c k rooms i a r (Err x) k' c'
-  no_state f full e = record { goes = new_exceeds h.progress i a r q.row q.next rooms f full; kept = e }
+  -- No room for a new state.
+  pub no_state : FirstEqual c.expression k.states r None → rooms.states ≤ k.states → (w : Result Unit NoRoom) → IsErr w
+      → {k' : Counts} {c' : Lent} → k'.rows ≡ k.rows → Met c k rooms i a r w k' c'
+  no_state f full (Ok u) no_ok e = let z : false ≡ true = no_ok in absurd (true≢false (sym z))
+  no_state f full (Err x) is_err e = record { goes = new_exceeds h.progress i a r q.row q.next rooms f full; kept = e }
 
   -- A state that stands, and the arc to it, or no room for the arc.
   pub met_known : {j : ℕ} → FirstEqual c.expression k.states r (Some j) → (w : Result Unit NoRoom) (n : ℕ) (z : ArcColumns)
@@ -88,9 +90,9 @@ module _ {c : Lent} {rooms k : Counts} {i a r : ℕ} (h : Ready c rooms k) (q : 
       (lent c.rows (set c.expression k.states r) (set c.accepting k.states (cond (empty_word (tree_at c.rows r)) 1 0)) z)
   new_met f room j s ej es (Ok u) n z add =
       let o = h.roomy in
-      let flag = cond (empty_word (tree_at c.rows r)) 1 0 in
-      let column = set c.expression k.states r in
-      let flags = set c.accepting k.states flag in
+      let flag : ℕ = cond (empty_word (tree_at c.rows r)) 1 0 in
+      let column : List ℕ = set c.expression k.states r in
+      let flags : List ℕ = set c.accepting k.states flag in
       let space = add.0 in
       subst (λ (m : ℕ). Met c k rooms i a r (Ok u) (record { rows = k.rows; states = m; arcs = n }) (lent c.rows column flags z)) (sym es)
       (subst (λ (m : ℕ). Met c k rooms i a r (Ok u) (record { rows = k.rows; states = k.states + 1; arcs = m }) (lent c.rows column flags z)) (sym add.2)
@@ -107,11 +109,12 @@ module _ {c : Lent} {rooms k : Counts} {i a r : ℕ} (h : Ready c rooms k) (q : 
   new_met f room j s ej es (Err x) n z add = no_arc add.0 refl
 
   -- A new state, and the arc to it, or no room for the arc.
-  pub met_new : FirstEqual c.expression k.states r None → {j s : ℕ} {column flags : List ℕ}
-      → StateAdded rooms.states k.states c.expression c.accepting r (cond (empty_word (tree_at c.rows r)) 1 0) (Ok j) s column flags
+  pub met_new : FirstEqual c.expression k.states r None → {j s : ℕ} {column flags : List ℕ} {accepts : Bool} → accepts ≡ empty_word (tree_at c.rows r)
+      → StateAdded rooms.states k.states c.expression c.accepting r (cond accepts 1 0) (Ok j) s column flags
       → (w : Result Unit NoRoom) (n : ℕ) (z : ArcColumns) → ArcAdded rooms.arcs k.arcs c.arcs (arc i a j) w n z
       → Met c k rooms i a r w (record { rows = k.rows; states = s; arcs = n }) (lent c.rows column flags z)
-  met_new f {j} {s} new w n z add =
+  met_new f {j} {s} {flags = flags} is new w n z add =
       let (room, ej, ex, ef, es) = new in
-      subst (λ x. Met c k rooms i a r w (record { rows = k.rows; states = s; arcs = n }) (lent c.rows x.0 x.1 z))
-      (sym (ap₂ (λ (x y : List ℕ). (x, y)) ex ef)) (new_met f room j s ej es w n z add)
+      subst (λ x. Met c k rooms i a r w (record { rows = k.rows; states = s; arcs = n }) (lent c.rows x flags z)) (sym ex)
+      (subst (λ x. Met c k rooms i a r w (record { rows = k.rows; states = s; arcs = n }) (lent c.rows (set c.expression k.states r) x z)) (sym (ef ∙ ap (λ (b : Bool). set c.accepting k.states (cond b 1 0)) is))
+      (new_met f room j s ej es w n z add))
