@@ -12,8 +12,8 @@ use Rattle.theory.specs.Expression.{Expression, same}
 use Rattle.theory.specs.Table.{Table, trees}
 use Rattle.theory.proofs.Distinct.{no_longer}
 use Rattle.theory.proofs.Trees.{trees_length}
-use Rattle.derive.specs.declared.rows.Interned.{Interned}
-use Rattle.derive.specs.declared.rows.Interned.TheVariants.{At, Full}
+use Rattle.std.specs.Prelude.{Result, Ok, Err}
+use Rattle.derive.specs.declared.rows.NoRoom.{NoRoom}
 use Rattle.derive.specs.Rows.{Fitted, Came, Held, Short, Answered}
 use Rattle.derive.proofs.Growing.{grown_none, grown_trans, grown_within}
 
@@ -22,10 +22,11 @@ use Rattle.derive.proofs.Growing.{grown_none, grown_trans, grown_within}
 pub came_none : {t : Table} {n room : ℕ} (Need : Expression → Type 0) → Fitted t n room → Came t n room Need t n
 came_none Need f = record { grown = grown_none f.rows; fits = f.fits; each = λ z m. inl m }
 
-pub fitted_then : {t t' : Table} {n n' room : ℕ} {Need : Expression → Type 0} → Fitted t n room → Came t n room Need t' n'
-    → length t'.kind ≡ length t.kind → Fitted t' n' room
-fitted_then f c e =
-    record { rows = c.grown.rows; fits = c.fits; in_columns = le_trans f.in_columns (le_of_eq (sym e)); small = f.small }
+pub fitted_then : {t t' : Table} {n n' room room' : ℕ} {Need : Expression → Type 0} → Fitted t n room → Came t n room Need t' n'
+    → length t'.kind ≡ length t.kind → room' ≡ room → Fitted t' n' room'
+fitted_then {t' = t'} {n' = n'} f c e q =
+    subst (λ (k : ℕ). Fitted t' n' k) (sym q)
+    (record { rows = c.grown.rows; fits = c.fits; in_columns = le_trans f.in_columns (le_of_eq (sym e)); small = f.small })
 
 -- A needed tree that is there already is not needed.
 module _ {t t' : Table} {n n' room : ℕ} {Need Need' : Expression → Type 0} (f : (z : Expression) → Need z → Memᴰ z (trees t n) ⊎ Need' z) where
@@ -59,15 +60,20 @@ module _ {t t' t'' : Table} {n n' room : ℕ} {Need : Expression → Type 0} (c 
 
 -- ---- Answers
 
-pub answered_as : {t t' : Table} {n room : ℕ} {Need : Expression → Type 0} {e : Expression} {r r' : Interned} → r ≡ r' → Answered t n room Need e r t'
-    → Answered t n room Need e r' t'
-answered_as {t} {t'} {n} {room} {Need} {e} q a = subst (λ s. Answered t n room Need e s t') q a
+pub answered_as : {t t' : Table} {n n' room : ℕ} {Need : Expression → Type 0} {e : Expression} {r r' : Result ℕ NoRoom} → r ≡ r'
+    → Answered t n room Need e r t' n' → Answered t n room Need e r' t' n'
+answered_as {t} {t'} {n} {n'} {room} {Need} {e} q a = subst (λ s. Answered t n room Need e s t' n') q a
+
+-- In the room that the columns have had all along.
+pub answered_at : {t t' : Table} {n n' room room' : ℕ} {Need : Expression → Type 0} {e : Expression} {r : Result ℕ NoRoom} → room' ≡ room
+    → Answered t n room' Need e r t' n' → Answered t n room Need e r t' n'
+answered_at {t} {t'} {n} {n'} {Need = Need} {e} {r} q a = subst (λ (k : ℕ). Answered t n k Need e r t' n') q a
 
 -- What came first and what is then answered, each for what is needed in the end.
-pub answered_then : {t t' t'' : Table} {n n' room : ℕ} {Need Need' : Expression → Type 0} {e : Expression} {r : Interned} → Came t n room Need t' n'
-    → ((z : Expression) → Need' z → Need z) → Answered t' n' room Need' e r t'' → Answered t n room Need e r t''
-answered_then {t'' = t''} {room = room} {e = e} {r = At i n''} c f a = record { answer = held_then c (held_for (λ z p. inr (f z p)) a.answer) }
-answered_then {r = Full} c f a = record { answer = short_then c (short_for (λ z p. inr (f z p)) a.answer) }
+pub answered_then : {t t' t'' : Table} {n n' n'' room : ℕ} {Need Need' : Expression → Type 0} {e : Expression} {r : Result ℕ NoRoom}
+    → Came t n room Need t' n' → ((z : Expression) → Need' z → Need z) → Answered t' n' room Need' e r t'' n'' → Answered t n room Need e r t'' n''
+answered_then {t'' = t''} {room = room} {e = e} {r = Ok i} c f a = record { answer = held_then c (held_for (λ z p. inr (f z p)) a.answer) }
+answered_then {r = Err x} c f a = record { answer = short_then c (short_for (λ z p. inr (f z p)) a.answer) }
 
 -- ---- Counting
 

@@ -1,6 +1,5 @@
 pub mod Growing
 pub mod Coming
-mod Finding
 mod Interning
 mod Reading
 pub mod Taking

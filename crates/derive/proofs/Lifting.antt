@@ -5,8 +5,8 @@ use Rattle.theory.specs.Expression.{pair}
 use Rattle.theory.specs.Table.{Table, Row, entry, kind_of_sign, tree_at, trees, row_tree, Sound, of_sign}
 use Rattle.theory.proofs.Sound.{sign_tree}
 use Rattle.theory.proofs.Trees.{trees_below}
-use Rattle.derive.specs.declared.rows.Interned.{Interned}
-use Rattle.derive.specs.declared.rows.Interned.TheVariants.{At}
+use Rattle.std.specs.Prelude.{Result, Ok}
+use Rattle.derive.specs.declared.rows.NoRoom.{NoRoom}
 use Rattle.derive.specs.declared.sides.Join.{Join}
 use Rattle.derive.specs.declared.sides.Join.TheVariants.{Followed, Shuffled, Shuffles}
 use Rattle.derive.specs.Rows.{Fitted, Interns}
@@ -20,11 +20,11 @@ abbrev joined_row : Join → ℕ → ℕ → Row
 joined_row j other member = arranged j (entry (kind_of_sign (join_sign j))) member other
 
 module _ {t : Table} {n room other member : ℕ} (f : Fitted t n room) (there : (other < n) × (member < n)) (j : Join) where
-  pub lift_literal : other ≡ 0 → Interns t n room (beside j (tree_at t other) (tree_at t member)) (At member n) t
+  pub lift_literal : other ≡ 0 → Interns t n room (beside j (tree_at t other) (tree_at t member)) (Ok member) t n
   lift_literal e =
       intern_there f there.1 (sym (ap (λ o. beside j o (tree_at t member)) (ap (tree_at t) e ∙ f.rows.literal) ∙ beside_literal j (tree_at t member)))
 
-  pub lift_empty : member ≡ 0 → Interns t n room (beside j (tree_at t other) (tree_at t member)) (At other n) t
+  pub lift_empty : member ≡ 0 → Interns t n room (beside j (tree_at t other) (tree_at t member)) (Ok other) t n
   lift_empty e =
       intern_there f there.0 (sym (ap (beside j (tree_at t other)) (ap (tree_at t) e ∙ f.rows.literal) ∙ beside_ε j (tree_at t other)))
 
@@ -49,10 +49,10 @@ module _ {t : Table} {n room other member : ℕ} (f : Fitted t n room) (there : 
     pub lift_sound : Sound n w
     lift_sound = subst (Sound n) (sym is) (joined_sound j)
 
-    pub lift_pair : {t' : Table} {r : Interned} → (other ≡ 0 → ⊥) → (member ≡ 0 → ⊥) → Interns t n room (row_tree w (trees t n)) r t'
-        → Interns t n room (beside j (tree_at t other) (tree_at t member)) r t'
-    lift_pair {t'} {r} d c h =
-        subst (λ e. Interns t n room e r t')
+    pub lift_pair : {t' : Table} {n' : ℕ} {r : Result ℕ NoRoom} → (other ≡ 0 → ⊥) → (member ≡ 0 → ⊥) → Interns t n room (row_tree w (trees t n)) r t' n'
+        → Interns t n room (beside j (tree_at t other) (tree_at t member)) r t' n'
+    lift_pair {t'} {n'} {r} d c h =
+        subst (λ e. Interns t n room e r t' n')
         (ap (λ v. row_tree v (trees t n)) is ∙ joined_tree j
         ∙ sym (beside_pair j (tree_at t other) (tree_at t member) (not_ε f.rows there.0 d) (not_ε f.rows there.1 c)))
         h

@@ -1,7 +1,8 @@
 -- What stands after a member of a list, and the members of a list that another does not have.
 use mathlib.Core.Path.{◌≡◌, refl, sym, ap, ◌∙◌, subst}
 use mathlib.Core.Logic.{◌⊎◌, inl, inr}
-use mathlib.Core.Option.{Option, none, some, some-injective}
+use Rattle.std.specs.Prelude.{Option, Some, None}
+use Rattle.std.proofs.lemmas.Option.{same_Some}
 use mathlib.Core.List.Memᴰ
 use mathlib.Core.List.{List, [], ◌∷◌, ◌++◌, map, Memᴰ}
 use Rattle.theory.specs.Expression.{Expression, same}
@@ -11,24 +12,24 @@ use Rattle.derive.specs.Walk.{if_yes, behind, first_of}
 
 -- ---- The first member
 
-pub first_none : (xs : List Expression) → first_of xs ≡ none → xs ≡ []
+pub first_none : (xs : List Expression) → first_of xs ≡ None → xs ≡ []
 first_none [] e = refl
 first_none (x ∷ xs) e = let z : ◌≡◌ {A = List Expression} (x ∷ xs) [] = cc in z
 
-pub first_some : (xs : List Expression) {z : Expression} → first_of xs ≡ some z → (ys : List Expression) × (xs ≡ z ∷ ys)
+pub first_some : (xs : List Expression) {z : Expression} → first_of xs ≡ Some z → (ys : List Expression) × (xs ≡ z ∷ ys)
 first_some [] {z} e = ([], cc)
-first_some (x ∷ xs) {z} e = (xs, ap {B = List Expression} (λ y. y ∷ xs) (some-injective x z e))
+first_some (x ∷ xs) {z} e = (xs, ap {B = List Expression} (λ y. y ∷ xs) (same_Some x z e))
 
-pub first_member : (xs : List Expression) {z : Expression} → first_of xs ≡ some z → Memᴰ z xs
+pub first_member : (xs : List Expression) {z : Expression} → first_of xs ≡ Some z → Memᴰ z xs
 first_member xs {z} e = let r = first_some xs e in subst (Memᴰ z) (sym r.1) (Memᴰ.head refl)
 
-pub first_append : (xs ys : List Expression) {z : Expression} → first_of xs ≡ some z → first_of (xs ++ ys) ≡ some z
+pub first_append : (xs ys : List Expression) {z : Expression} → first_of xs ≡ Some z → first_of (xs ++ ys) ≡ Some z
 first_append [] ys e = cc
 first_append (x ∷ xs) ys e = e
 
-pub first_map : (f : Expression → Expression) (xs : List Expression) {z : Expression} → first_of xs ≡ some z → first_of (map f xs) ≡ some (f z)
+pub first_map : (f : Expression → Expression) (xs : List Expression) {z : Expression} → first_of xs ≡ Some z → first_of (map f xs) ≡ Some (f z)
 first_map f [] e = cc
-first_map f (x ∷ xs) {z} e = ap {B = Option Expression} (λ y. some (f y)) (some-injective x z e)
+first_map f (x ∷ xs) {z} e = ap {B = Option Expression} (λ y. Some (f y)) (same_Some x z e)
 
 -- ---- After a member
 

@@ -4,23 +4,22 @@ use native.Mathlib.Nat.{le_trans, le_of_lt}
 use mathlib.Core.Path.{◌≡◌, refl, sym, ap, ◌∙◌}
 use mathlib.Core.Bool.{Bool, true, false, not, ◌&&◌}
 use lib.Dec.{eqb}
-use borrow.Author.Tests.{eqb-true, eqb-false, eq-eqb, ne_eqb}
+use borrow.Author.Tests.{eqb-true, eqb-false}
 use Rattle.theory.specs.Expression.{Expression, same, ε}
 use Rattle.theory.specs.Table.{Table, Row, row, tree_at, kind_of_sign}
 use Rattle.theory.proofs.Rooted.{rooted, sign_rooted, pair_rooted}
 use Rattle.derive.specs.declared.sides.Join.{Join}
 use Rattle.derive.specs.declared.sides.Join.TheVariants.{Followed, Shuffled, Shuffles}
-use Rattle.derive.specs.declared.sides.Lowered.{Lowered}
-use Rattle.derive.specs.declared.sides.Lowered.TheVariants.{Member, Outside}
+use Rattle.std.specs.Prelude.{Option, Some, None}
 use Rattle.derive.specs.Rows.{Rows}
 use Rattle.derive.specs.Sides.{join_sign, arranged, beside, choose, parted, lowered}
 use Rattle.derive.proofs.Growing.{rows_differ, not_ε}
 use Rattle.derive.proofs.Joining.{paired, paired_same, beside_literal, beside_ε, beside_pair}
 
 -- What undoing the join of row p's tree with row other's gives: the member, or that no member's join it is.
-abbrev pub Lowers : Table → ℕ → ℕ → Join → ℕ → Lowered → Type 0
-Lowers t n other j p (Member m) = (m < n) × (beside j (tree_at t other) (tree_at t m) ≡ tree_at t p)
-Lowers t n other j p Outside = (x : Expression) → beside j (tree_at t other) x ≡ tree_at t p → ⊥
+abbrev pub Lowers : Table → ℕ → ℕ → Join → ℕ → Option ℕ → Type 0
+Lowers t n other j p (Some m) = (m < n) × (beside j (tree_at t other) (tree_at t m) ≡ tree_at t p)
+Lowers t n other j p None = (x : Expression) → beside j (tree_at t other) x ≡ tree_at t p → ⊥
 
 -- The child of a row that stands for the member, and the one that stands for the other tree.
 abbrev member_of : Join → Row → ℕ
@@ -67,7 +66,7 @@ module _ {t : Table} {n p other : ℕ} (h : Rows t n) (lp : p < n) (lo : other <
   abbrev k : ℕ
   k = kind_of_sign (join_sign j)
 
-  outside : (other ≡ 0 → ⊥) → (p ≡ other → ⊥) → ((row t p).kind ≡ k → o ≡ other → (m ≡ 0 → ⊥) → ⊥) → Lowers t n other j p Outside
+  outside : (other ≡ 0 → ⊥) → (p ≡ other → ⊥) → ((row t p).kind ≡ k → o ≡ other → (m ≡ 0 → ⊥) → ⊥) → Lowers t n other j p None
   outside d d' apart x e = go (same x ε)
     where
       go : Dec (x ≡ ε) → ⊥
@@ -79,7 +78,7 @@ module _ {t : Table} {n p other : ℕ} (h : Rows t n) (lp : p < n) (lo : other <
           let both = paired_same j (tree_at t other) x (tree_at t o) (tree_at t m) (paired_is ∙ r.is) in
           apart kind_is (rows_differ h r.other_in lo (sym both.0)) (λ z. c (both.1 ∙ ap (tree_at t) z ∙ h.literal))
 
-  inside : (other ≡ 0 → ⊥) → (row t p).kind ≡ k → o ≡ other → (m ≡ 0 → ⊥) → Lowers t n other j p (Member m)
+  inside : (other ≡ 0 → ⊥) → (row t p).kind ≡ k → o ≡ other → (m ≡ 0 → ⊥) → Lowers t n other j p (Some m)
   inside d e q c =
       let r = pairs h lp j e in (
         r.member_in,
@@ -92,7 +91,7 @@ module _ {t : Table} {n p other : ℕ} (h : Rows t n) (lp : p < n) (lo : other <
   parts_well d d' = go (eqb (row t p).kind k) refl (eqb o other) refl (eqb m 0) refl
     where
       go : (b : Bool) → eqb (row t p).kind k ≡ b → (c : Bool) → eqb o other ≡ c → (z : Bool) → eqb m 0 ≡ z
-          → Lowers t n other j p (choose (b && c && not z) (Member m) Outside)
+          → Lowers t n other j p (choose (b && c && not z) (Some m) None)
       go false e c f z g = outside d d' (λ x y z. eqb-false _ _ e x)
       go true e false f z g = outside d d' (λ x y z. eqb-false _ _ f y)
       go true e true f true g = outside d d' (λ x y z. z (eqb-true _ _ g))
@@ -102,28 +101,12 @@ module _ {t : Table} {n p other : ℕ} (h : Rows t n) (lp : p < n) (lo : other <
   unfolding lowered
   lowers = at_literal (eqb other 0) refl
     where
-      at_other : (other ≡ 0 → ⊥) → (b : Bool) → eqb p other ≡ b → Lowers t n other j p (choose b (Member 0) (parted (row t p) j other))
+      at_other : (other ≡ 0 → ⊥) → (b : Bool) → eqb p other ≡ b → Lowers t n other j p (choose b (Some 0) (parted (row t p) j other))
       at_other d true e =
           (h.nonempty, ap (beside j (tree_at t other)) h.literal ∙ beside_ε j (tree_at t other) ∙ ap (tree_at t) (sym (eqb-true _ _ e)))
       at_other d false e = parts_well d (eqb-false _ _ e)
 
       at_literal : (b : Bool) → eqb other 0 ≡ b
-          → Lowers t n other j p (choose b (Member p) (choose (eqb p other) (Member 0) (parted (row t p) j other)))
+          → Lowers t n other j p (choose b (Some p) (choose (eqb p other) (Some 0) (parted (row t p) j other)))
       at_literal true e = (lp, ap (λ z. beside j z (tree_at t p)) (ap (tree_at t) (eqb-true _ _ e) ∙ h.literal) ∙ beside_literal j (tree_at t p))
       at_literal false e = at_other (eqb-false _ _ e) (eqb p other) refl
-
--- ---- As the code finds it
-
-module _ (t : Table) (other : ℕ) (j : Join) (p : ℕ) where
-  pub lowered_literal : other ≡ 0 → Member p ≡ lowered t other j p
-  unfolding lowered
-  lowered_literal e = sym (simp (eq-eqb other 0 e))
-
-  module _ (d : other ≡ 0 → ⊥) where
-    pub lowered_other : p ≡ other → Member 0 ≡ lowered t other j p
-    unfolding lowered
-    lowered_other e = sym (simp (ne_eqb other 0 d, eq-eqb p other e))
-
-    pub lowered_parted : (p ≡ other → ⊥) → {w : Row} {r : Lowered} → w ≡ row t p → r ≡ parted w j other → r ≡ lowered t other j p
-    unfolding lowered
-    lowered_parted k e q = q ∙ ap (λ v. parted v j other) e ∙ sym (simp (ne_eqb other 0 d, ne_eqb p other k))

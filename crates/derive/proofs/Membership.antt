@@ -17,11 +17,8 @@ use Rattle.theory.specs.Table.{Table, Row, row, tree_at}
 use Rattle.theory.proofs.Derivative.{gathered, derivative_gathered}
 use Rattle.theory.proofs.Distinct.{distinct_of, to_distinct}
 use Rattle.theory.proofs.Rooted.{rooted, letter_rooted}
-use Rattle.derive.specs.declared.sides.Join.{Join}
+use Rattle.std.specs.Prelude.{Option, Some, None}
 use Rattle.derive.specs.declared.sides.Side.{Side}
-use Rattle.derive.specs.declared.sides.Side.TheVariants.{Nothing, Of}
-use Rattle.derive.specs.declared.sides.Lowered.{Lowered}
-use Rattle.derive.specs.declared.sides.Lowered.TheVariants.{Member, Outside}
 use Rattle.derive.specs.Rows.{Rows}
 use Rattle.derive.specs.Sides.{WithinRow, beside, side_list, left_side, right_side, lowered}
 use Rattle.derive.specs.Walk.{Tells}
@@ -45,6 +42,10 @@ pub record Lettered (t : Table) (n i : ℕ) (w : Row) : Type 0 where
   pub within : i < n
   pub is : w ≡ row t i
   pub kind : w.kind ≡ Kind.letter
+
+-- As the code reads it, of the table seen as u.
+pub lettered : {t u : Table} {n i : ℕ} {w : Row} → Rows t n → i < n → u ≡ t → w ≡ row u i → w.kind ≡ Kind.letter → Lettered t n i w
+lettered {i = i} h l view e q = record { rows = h; within = l; is = e ∙ ap (λ v. row v i) view; kind = q }
 
 module _ {t : Table} {n i : ℕ} {w : Row} (k : Lettered t n i w) (a : ℕ) where
   letter_tree : tree_at t i ≡ letter w.left
@@ -74,32 +75,39 @@ module _ {t : Table} {n i : ℕ} {w : Row} (k : Lettered t n i w) (a : ℕ) wher
 -- ---- A row with two sides
 
 -- What a walk of a side costs: it falls from a row to its sides and from a side to its child.
-abbrev pub weight : Side → ℕ
-weight Nothing = 0
-weight (Of child other join) = suc child
+abbrev pub weight : Option Side → ℕ
+weight None = 0
+weight (Some s) = suc s.child
 
-weight_within : (n i : ℕ) (side : Side) → WithinRow n i side → weight side ≤ i
-weight_within n i Nothing h = omega arith
-weight_within n i (Of child other join) h = h.0
+weight_within : (n i : ℕ) (side : Option Side) → WithinRow n i side → weight side ≤ i
+weight_within n i None h = omega arith
+weight_within n i (Some s) h = h.0
 
-within_more : (n i : ℕ) (side : Side) → i < n → WithinRow n i side → WithinRow n n side
-within_more n i Nothing l h = tt
-within_more n i (Of child other join) l h = (le_trans h.0 (le_of_lt l), h.1)
+within_more : (n i : ℕ) (side : Option Side) → i < n → WithinRow n i side → WithinRow n n side
+within_more n i None l h = tt
+within_more n i (Some s) l h = (le_trans h.0 (le_of_lt l), h.1)
 
 -- Row i of n is no letter, and x and y are its sides.
-pub record TwoSides (t : Table) (n i : ℕ) (x y : Side) : Type 0 where
+pub record TwoSides (t : Table) (n i : ℕ) (x y : Option Side) : Type 0 where
   pub rows : Rows t n
   pub within : i < n
   pub no_letter : (row t i).kind ≡ Kind.letter → ⊥
   pub left : x ≡ left_side t i
   pub right : y ≡ right_side t i
 
--- As the code reads the row, which is w.
-pub two_sides : {t : Table} {n i : ℕ} {w : Row} {x y : Side} → Rows t n → i < n → w ≡ row t i → (w.kind ≡ Kind.letter → ⊥) → x ≡ left_side t i
-    → y ≡ right_side t i → TwoSides t n i x y
-two_sides h l e d p q = record { rows = h; within = l; no_letter = λ z. d (ap (λ (v : Row). v.kind) e ∙ z); left = p; right = q }
+-- As the code reads the row, which is w, of the table seen as u. The kind of a letter is k.
+pub two_sides : {t u : Table} {n i k : ℕ} {w : Row} {x y : Option Side} → Rows t n → i < n → u ≡ t → w ≡ row u i → (w.kind ≡ k → ⊥) → k ≡ Kind.letter
+    → x ≡ left_side u i → y ≡ right_side u i → TwoSides t n i x y
+two_sides {i = i} h l view e d z p q =
+    record {
+      rows = h;
+      within = l;
+      no_letter = λ b. d (ap (λ (v : Row). v.kind) (e ∙ ap (λ v. row v i) view) ∙ b ∙ sym z);
+      left = p ∙ ap (λ v. left_side v i) view;
+      right = q ∙ ap (λ v. right_side v i) view;
+    }
 
-module _ {t : Table} {n i : ℕ} {x y : Side} (k : TwoSides t n i x y) where
+module _ {t : Table} {n i : ℕ} {x y : Option Side} (k : TwoSides t n i x y) where
   left_row : WithinRow n i x
   left_row = subst (WithinRow n i) (sym k.left) (left_side_within k.rows k.within)
 
@@ -142,43 +150,43 @@ module _ {t : Table} {n i : ℕ} {x y : Side} (k : TwoSides t n i x y) where
 -- ---- A side
 
 -- The side is that of a child and a join, and row p is lowered as the code has done it.
-pub record Lower (t : Table) (n : ℕ) (side : Side) (child other : ℕ) (join : Join) (p : ℕ) (r : Lowered) : Type 0 where
+pub record Lower (t : Table) (n : ℕ) (side : Option Side) (s : Side) (p : ℕ) (r : Option ℕ) : Type 0 where
   pub rows : Rows t n
-  pub is : side ≡ Of child other join
+  pub is : side ≡ Some s
   pub within : WithinRow n n side
   pub place : p < n
-  pub lowered_is : r ≡ lowered t other join p
+  pub lowered_is : r ≡ lowered t s.other s.join p
 
-pub lower_told : {t : Table} {n : ℕ} {side : Side} {child other : ℕ} {join : Join} {p : ℕ} {r : Lowered} → Rows t n → side ≡ Of child other join
-    → WithinRow n n side → p < n → r ≡ lowered t other join p → Lower t n side child other join p r
+pub lower_told : {t : Table} {n : ℕ} {side : Option Side} {s : Side} {p : ℕ} {r : Option ℕ} → Rows t n → side ≡ Some s
+    → WithinRow n n side → p < n → r ≡ lowered t s.other s.join p → Lower t n side s p r
 lower_told h e w l q = record { rows = h; is = e; within = w; place = l; lowered_is = q }
 
-module _ {t : Table} {n : ℕ} {side : Side} {child other : ℕ} {join : Join} {p : ℕ} {r : Lowered} (k : Lower t n side child other join p r) where
-  pub child_within : child < n
+module _ {t : Table} {n : ℕ} {side : Option Side} {s : Side} {p : ℕ} {r : Option ℕ} (k : Lower t n side s p r) where
+  pub child_within : s.child < n
   child_within = (subst (WithinRow n n) k.is k.within).0
 
-  lower_well : Lowers t n other join p r
-  lower_well = subst (Lowers t n other join p) (sym k.lowered_is) (lowers k.rows k.place (subst (WithinRow n n) k.is k.within).1 join)
+  lower_well : Lowers t n s.other s.join p r
+  lower_well = subst (Lowers t n s.other s.join p) (sym k.lowered_is) (lowers k.rows k.place (subst (WithinRow n n) k.is k.within).1 s.join)
 
-  pub outside_tells : (a : ℕ) → r ≡ Outside → Memᴰ (tree_at t p) (side_list a t side) → ⊥
+  pub outside_tells : (a : ℕ) → r ≡ None → Memᴰ (tree_at t p) (side_list a t side) → ⊥
   outside_tells a o m =
-      let i = Memᴰ.of_map _ (derivative a (tree_at t child)) (subst (λ s. Memᴰ (tree_at t p) (side_list a t s)) k.is m) in
-      (subst (Lowers t n other join p) o lower_well) i.0 i.2
+      let i = Memᴰ.of_map _ (derivative a (tree_at t s.child)) (subst (λ z. Memᴰ (tree_at t p) (side_list a t z)) k.is m) in
+      (subst (Lowers t n s.other s.join p) o lower_well) i.0 i.2
 
-  module _ {m : ℕ} (o : r ≡ Member m) where
-    member_is : Lowers t n other join p (Member m)
-    member_is = subst (Lowers t n other join p) o lower_well
+  module _ {m : ℕ} (o : r ≡ Some m) where
+    member_is : Lowers t n s.other s.join p (Some m)
+    member_is = subst (Lowers t n s.other s.join p) o lower_well
 
     pub member_within : m < n
     member_within = member_is.0
 
-    pub member_tells : (a : ℕ) (b : Bool) → Tells b (Memᴰ (tree_at t m) (derivative a (tree_at t child)))
+    pub member_tells : (a : ℕ) (b : Bool) → Tells b (Memᴰ (tree_at t m) (derivative a (tree_at t s.child)))
         → Tells b (Memᴰ (tree_at t p) (side_list a t side))
-    member_tells a b h = subst (λ s. Tells b (Memᴰ (tree_at t p) (side_list a t s))) (sym k.is) (go b h)
+    member_tells a b h = subst (λ z. Tells b (Memᴰ (tree_at t p) (side_list a t z))) (sym k.is) (go b h)
       where
-        go : (b : Bool) → Tells b (Memᴰ (tree_at t m) (derivative a (tree_at t child)))
-            → Tells b (Memᴰ (tree_at t p) (map (beside join (tree_at t other)) (derivative a (tree_at t child))))
+        go : (b : Bool) → Tells b (Memᴰ (tree_at t m) (derivative a (tree_at t s.child)))
+            → Tells b (Memᴰ (tree_at t p) (map (beside s.join (tree_at t s.other)) (derivative a (tree_at t s.child))))
         go true z = Memᴰ.cast (sym member_is.1) (Memᴰ.map _ z)
         go false z = λ y.
-            let i = Memᴰ.of_map _ (derivative a (tree_at t child)) y in
-            z (Memᴰ.cast (beside_tells join (tree_at t other) _ _ (member_is.1 ∙ sym i.2)) i.1)
+            let i = Memᴰ.of_map _ (derivative a (tree_at t s.child)) y in
+            z (Memᴰ.cast (beside_tells s.join (tree_at t s.other) _ _ (member_is.1 ∙ sym i.2)) i.1)

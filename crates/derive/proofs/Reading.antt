@@ -1,24 +1,28 @@
--- A row as the code has read it, with the children that it names: what the row is, its tree over theirs, and the answer for the empty word.
+-- A row as the code has read it, with the children that it names: what the row is and its tree over theirs. Then
+-- the answer for the empty word, by the row's kind.
 use Prim.Native.Nat.{ℕ, suc, ◌<◌}
 use native.Mathlib.Nat.{le_refl}
-use native.Mathlib.Omega.{arith}
-use mathlib.Core.Path.{◌≡◌, sym, ap, ◌∙◌, subst}
-use mathlib.Core.Bool.{true, ◌&&◌, ◌||◌}
-use mathlib.Core.List.{[]}
-use lib.Dec.{eqb}
-use Rattle.theory.specs.Kind
-use Rattle.theory.specs.Expression.{pair, Sign, binary, star, union, concatenation, shuffle}
+use mathlib.Core.Path.{◌≡◌, refl, sym, ap, ap₂, ◌∙◌, subst}
+use mathlib.Core.Bool.{Bool, true, false, ◌&&◌, ◌||◌}
+use Rattle.theory.specs.Kind as paper
+use Rattle.theory.specs.Expression.{pair, Sign, binary, star}
 use Rattle.theory.specs.Derivative.{empty_word}
-use Rattle.theory.specs.Table.{Table, Row, row, Sound, tree_at, kind_of_sign, row_children}
-use Rattle.theory.proofs.Meaning.{kind_is, children_sign, children_star}
+use Rattle.theory.specs.Table.{Table, Row, row, entry, Sound, Meaning, ∅_kind, ε_kind, letter_kind, star_kind, unknown_kind, meaning, node, row_tree, trees, tree_at, kind_of_sign, row_children}
+use Rattle.theory.specs.Meant.{as_sign, kind_meaning}
+use Rattle.theory.specs.declared.kind.Sign.{Sign as CodeSign}
+use Rattle.theory.specs.declared.kind.Sign.TheVariants.{Union, Concatenation, Shuffle}
+use Rattle.theory.specs.declared.kind.Kind.{Kind}
+use Rattle.theory.specs.declared.kind.Kind.TheVariants.{EmptyLanguage, EmptyWord, Letter, Sign as Signed, Star}
+use Rattle.theory.proofs.Meaning.{Numbered, numbered, kind_is}
 use Rattle.theory.proofs.Pair.{pair_empty_word}
 use Rattle.theory.proofs.Sound.{Parent, parent, of_none, of_one, of_two}
-use Rattle.theory.proofs.Rooted.{Rooted, ∅_row, ε_row, letter_row, sign_row, star_row, rooted, tree_sign, tree_star}
+use Rattle.theory.proofs.Rooted.{rooted, sign_rooted, tree_sign, tree_star}
 use Rattle.columns.specs.Row.{as_row, as_children}
-use Rattle.columns.specs.declared.Row.{Row as Taken}
-use Rattle.columns.specs.declared.Children.{Children}
-use Rattle.columns.specs.declared.Children.TheVariants.{Nothing, One, Two}
+use Rattle.columns.specs.declared.row.Row.{Row as Taken}
+use Rattle.columns.specs.declared.row.Children.{Children}
+use Rattle.columns.specs.declared.row.Children.TheVariants.{Nothing, One, Two}
 use Rattle.derive.specs.Rows.{SoundTo}
+use Rattle.derive.proofs.Growing.{sound_to_less}
 
 -- The children told are those of the row.
 pub parent_told : {i : ℕ} {w : Row} {r r' : Children} → Sound i w → as_children r ≡ row_children w → r ≡ r' → Parent i w (as_children r')
@@ -49,6 +53,10 @@ module _ {t : Table} {i : ℕ} {w : Row} {r : Children} (k : Read t i w r) where
   pub star_read : {c : ℕ} → r ≡ One c → (c < i) × (tree_at t i ≡ star (tree_at t c))
   star_read e = let p = of_one (parent_read e) in (p.0, tree_star t i p.0 (sym k.is ∙ p.1))
 
+  -- Its row over another child.
+  pub star_with : {c : ℕ} → r ≡ One c → (x : ℕ) → entry w.kind x w.right ≡ entry paper.star x 0
+  star_with e x = let p = of_one (parent_read e) in ap (λ (v : Row). entry v.kind x v.right) p.1
+
   -- A sign over rows c and d.
   pub sign_read : {c d : ℕ} → r ≡ Two c d
       → (s : Sign) × (c < i) × (d < i) × (w.kind ≡ kind_of_sign s) × (tree_at t i ≡ pair s (tree_at t c) (tree_at t d))
@@ -56,46 +64,72 @@ module _ {t : Table} {i : ℕ} {w : Row} {r : Children} (k : Read t i w r) where
       let p = of_two (parent_read e) in
       (p.0, p.1, p.2, kind_is p.3, tree_sign t i p.0 p.1 p.2 (sym k.is ∙ p.3))
 
-  -- ---- The empty word
+-- ---- A row by its kind
 
-  pub word_leaf : r ≡ Nothing → eqb w.kind Kind.empty_word ≡ empty_word (tree_at t i)
-  unfolding empty_word
-  word_leaf e = go (rooted t i row_sound)
-    where
-      none_named : [] ≡ row_children w
-      none_named = ap as_children (sym e) ∙ k.named
+-- w is row i as the code has read it.
+module _ (t : Table) (i : ℕ) {w : Row} (e : w ≡ row t i) where
+  word_as : (m : Meaning) → meaning w.kind ≡ m → empty_word (tree_at t i) ≡ empty_word (node m w.left w.right (trees t i))
+  unfolding tree_at row_tree
+  word_as m h =
+      ap (λ (v : Row). empty_word (node (meaning v.kind) v.left v.right (trees t i))) (sym e)
+      ∙ ap (λ n. empty_word (node n w.left w.right (trees t i))) h
 
-      go : Rooted t i → eqb w.kind Kind.empty_word ≡ empty_word (tree_at t i)
-      go (∅_row q tr) = rw (kind_is (k.is ∙ q), tr)
-      go (ε_row q tr) = rw (kind_is (k.is ∙ q), tr)
-      go (letter_row a q tr) = rw (kind_is (k.is ∙ q), tr)
-      go (sign_row s l r hl hr q tr) = let z : ◌≡◌ {A = ℕ} 0 1 = cc (children_sign w s (kind_is (k.is ∙ q))) in absurd (omega arith)
-      go (star_row l hl q tr) = let z : ◌≡◌ {A = ℕ} 0 1 = cc (children_star w (kind_is (k.is ∙ q))) in absurd (omega arith)
+  pub word_unknown : meaning w.kind ≡ unknown_kind → false ≡ empty_word (tree_at t i)
+  unfolding node empty_word
+  word_unknown h = sym (word_as unknown_kind h)
 
-  pub word_star : {c : ℕ} → r ≡ One c → true ≡ empty_word (tree_at t i)
-  unfolding empty_word
-  word_star e = sym (ap empty_word (star_read e).1)
+  module _ {k : Kind} (h : meaning w.kind ≡ kind_meaning k) where
+    pub word_ε : k ≡ EmptyWord → true ≡ empty_word (tree_at t i)
+    unfolding node empty_word
+    word_ε q = sym (word_as ε_kind (h ∙ ap kind_meaning q))
 
-  module _ {c d : ℕ} (e : r ≡ Two c d) where
-    word_sign : empty_word (tree_at t i) ≡ empty_word (binary (sign_read e).0 (tree_at t c) (tree_at t d))
-    word_sign = ap empty_word (sign_read e).4 ∙ pair_empty_word (sign_read e).0 (tree_at t c) (tree_at t d)
+    pub word_star : k ≡ Star → true ≡ empty_word (tree_at t i)
+    unfolding node empty_word
+    word_star q = sym (word_as star_kind (h ∙ ap kind_meaning q))
 
-    pub word_union : w.kind ≡ Kind.union → (empty_word (tree_at t c) || empty_word (tree_at t d)) ≡ empty_word (tree_at t i)
-    unfolding empty_word kind_of_sign
-    word_union q = go (sign_read e).0 (sign_read e).3 word_sign
+    pub word_other : (k ≡ EmptyWord → ⊥) → ((s : CodeSign) → k ≡ Signed s → ⊥) → (k ≡ Star → ⊥) → false ≡ empty_word (tree_at t i)
+    unfolding node empty_word
+    word_other a b c = go k refl
       where
-        go : (s : Sign) → w.kind ≡ kind_of_sign s → empty_word (tree_at t i) ≡ empty_word (binary s (tree_at t c) (tree_at t d))
-            → (empty_word (tree_at t c) || empty_word (tree_at t d)) ≡ empty_word (tree_at t i)
-        go union h x = sym x
-        go concatenation h x = absurd (omega arith)
-        go shuffle h x = absurd (omega arith)
+        go : (j : Kind) → k ≡ j → false ≡ empty_word (tree_at t i)
+        go EmptyLanguage q = sym (word_as ∅_kind (h ∙ ap kind_meaning q))
+        go EmptyWord q = absurd (a q)
+        go Letter q = sym (word_as letter_kind (h ∙ ap kind_meaning q))
+        go (Signed s) q = absurd (b s q)
+        go Star q = absurd (c q)
 
-    pub word_both : (w.kind ≡ Kind.union → ⊥) → (empty_word (tree_at t c) && empty_word (tree_at t d)) ≡ empty_word (tree_at t i)
-    unfolding empty_word kind_of_sign
-    word_both q = go (sign_read e).0 (sign_read e).3 word_sign
-      where
-        go : (s : Sign) → w.kind ≡ kind_of_sign s → empty_word (tree_at t i) ≡ empty_word (binary s (tree_at t c) (tree_at t d))
-            → (empty_word (tree_at t c) && empty_word (tree_at t d)) ≡ empty_word (tree_at t i)
-        go union h x = absurd (q h)
-        go concatenation h x = sym x
-        go shuffle h x = sym x
+    -- A sign's row.
+    module _ {s : CodeSign} (q : k ≡ Signed s) (d : SoundTo t i) where
+      sign_kind_is : w.kind ≡ kind_of_sign (as_sign s)
+      sign_kind_is = subst (λ m. Numbered m w.kind) (h ∙ ap kind_meaning q) (numbered w.kind)
+
+      by_sign : (w.left < i) × (w.right < i) × (tree_at t i ≡ pair (as_sign s) (tree_at t w.left) (tree_at t w.right))
+      by_sign =
+          subst (λ (v : Row). (v.left < i) × (v.right < i) × (tree_at t i ≡ pair (as_sign s) (tree_at t v.left) (tree_at t v.right))) (sym e)
+          (sign_rooted (as_sign s) (rooted t i (d.sound i (le_refl (suc i)))) (sym (ap (λ (v : Row). v.kind) e) ∙ sign_kind_is))
+
+      -- Its children stand before it.
+      pub left_before : (w.left < i) × SoundTo t w.left
+      left_before = (by_sign.0, sound_to_less d by_sign.0)
+
+      pub right_before : (w.right < i) × SoundTo t w.right
+      right_before = (by_sign.1, sound_to_less d by_sign.1)
+
+      word_sign : empty_word (tree_at t i) ≡ empty_word (binary (as_sign s) (tree_at t w.left) (tree_at t w.right))
+      word_sign = ap empty_word by_sign.2 ∙ pair_empty_word (as_sign s) (tree_at t w.left) (tree_at t w.right)
+
+      module _ {a b : Bool} (ea : a ≡ empty_word (tree_at t w.left)) (eb : b ≡ empty_word (tree_at t w.right)) where
+        pub word_union : s ≡ Union → (a || b) ≡ empty_word (tree_at t i)
+        unfolding empty_word
+        word_union z =
+            ap₂ ◌||◌ ea eb ∙ sym (ap (λ v. empty_word (binary (as_sign v) (tree_at t w.left) (tree_at t w.right))) z) ∙ sym word_sign
+
+        pub word_both : (s ≡ Union → ⊥) → (a && b) ≡ empty_word (tree_at t i)
+        unfolding empty_word
+        word_both z = ap₂ ◌&&◌ ea eb ∙ go s refl ∙ sym word_sign
+          where
+            go : (v : CodeSign) → s ≡ v
+                → (empty_word (tree_at t w.left) && empty_word (tree_at t w.right)) ≡ empty_word (binary (as_sign v) (tree_at t w.left) (tree_at t w.right))
+            go Union p = absurd (z p)
+            go Concatenation p = refl
+            go Shuffle p = refl

@@ -1,6 +1,6 @@
 -- The list of a derivative is what its two sides have, without repeats, and the sides name rows that are there.
-use Prim.Native.Nat.{ℕ, suc, ◌<◌}
-use native.Mathlib.Nat.{le_refl, le_trans, le_of_lt}
+use Prim.Native.Nat.{ℕ, ◌<◌}
+use native.Mathlib.Nat.{le_trans, le_of_lt}
 use mathlib.Core.Path.{◌≡◌, refl, sym, ap, ap₂, ◌∙◌, subst}
 use mathlib.Core.Bool.{Bool, true, false, cond}
 use mathlib.Core.List.{List, [], ◌++◌, map, append-nil}
@@ -8,17 +8,16 @@ use Rattle.theory.specs.Kind
 use Rattle.theory.specs.Expression.{Expression, same, Sign, binary, star, union, concatenation, shuffle}
 use Rattle.theory.specs.Distinct.{distinct, NoRepeats}
 use Rattle.theory.specs.Derivative.{joined, derivative, empty_word}
-use Rattle.theory.specs.Table.{Table, Row, row, tree_at, kind_of_sign, Meaning, ∅_kind, ε_kind, letter_kind, sign_kind, star_kind, unknown_kind, meaning}
+use Rattle.theory.specs.Table.{Table, Row, row, tree_at, Meaning, ∅_kind, ε_kind, letter_kind, sign_kind, star_kind, meaning}
 use Rattle.theory.proofs.Derivative.{gathered, derivative_gathered, derivative_pair, derivative_no_repeats}
-use Rattle.theory.proofs.Meaning.{Numbered, numbered, meaning_is, kind_is}
+use Rattle.theory.proofs.Meaning.{Numbered, meaning_is, kind_is}
 use Rattle.theory.proofs.Members.{map_same}
-use Rattle.theory.proofs.Rooted.{Rooted, ∅_row, ε_row, letter_row, sign_row, star_row, rooted, sign_rooted}
+use Rattle.theory.proofs.Rooted.{Rooted, ∅_row, ε_row, letter_row, sign_row, star_row, rooted}
 use Rattle.derive.specs.declared.sides.Join.TheVariants.{Followed}
+use Rattle.std.specs.Prelude.{Option, Some, None}
 use Rattle.derive.specs.declared.sides.Side.{Side}
-use Rattle.derive.specs.declared.sides.Side.TheVariants.{Nothing, Of}
-use Rattle.derive.specs.Rows.{Rows, SoundTo}
-use Rattle.derive.specs.Sides.{WithinRow, beside, side_list, pick, left_of, right_of, left_side, right_side}
-use Rattle.derive.proofs.Growing.{sound_to_less}
+use Rattle.derive.specs.Rows.{Rows}
+use Rattle.derive.specs.Sides.{WithinRow, beside, side_list, side_of, pick, left_of, right_of, left_side, right_side}
 use Rattle.derive.proofs.Joining.{beside_literal, beside_tells}
 use Rattle.derive.proofs.Listing.{map_no_repeats}
 
@@ -38,66 +37,22 @@ module _ (t : Table) (i : ℕ) {w : Row} (e : w ≡ row t i) where
       ap (λ k. right_of k w.left w.right (empty_word (tree_at t w.left))) (sym (meaning_is m w.kind h))
       ∙ ap (λ (v : Row). right_of (meaning v.kind) v.left v.right (empty_word (tree_at t v.left))) e
 
-  -- No sign and no star.
-  module _ (d : (s : Sign) → w.kind ≡ kind_of_sign s → ⊥) where
-    pub left_none : (w.kind ≡ Kind.star → ⊥) → Nothing ≡ left_side t i
-    left_none n = go (meaning w.kind) (numbered w.kind)
-      where
-        go : (m : Meaning) → Numbered m w.kind → Nothing ≡ left_side t i
-        go ∅_kind h = left_as ∅_kind h
-        go ε_kind h = left_as ε_kind h
-        go letter_kind h = left_as letter_kind h
-        go (sign_kind s) h = absurd (d s h)
-        go star_kind h = absurd (n h)
-        go unknown_kind h = left_as unknown_kind h
-
-    pub right_none : Nothing ≡ right_side t i
-    right_none = go (meaning w.kind) (numbered w.kind)
-      where
-        go : (m : Meaning) → Numbered m w.kind → Nothing ≡ right_side t i
-        go ∅_kind h = right_as ∅_kind h
-        go ε_kind h = right_as ε_kind h
-        go letter_kind h = right_as letter_kind h
-        go (sign_kind s) h = absurd (d s h)
-        go star_kind h = right_as star_kind h
-        go unknown_kind h = right_as unknown_kind h
-
-  pub left_child : SoundTo t i → (s : Sign) → w.kind ≡ kind_of_sign s → SoundTo t w.left
-  left_child k s h =
-      let r = sign_rooted s (rooted t i (k.sound i (le_refl (suc i)))) (sym (ap (λ (v : Row). v.kind) e) ∙ h) in
-      sound_to_less k (subst (λ (v : Row). v.left < i) (sym e) r.0)
-
-  -- The right part's list follows where the left part has the empty word.
-  pub right_after : (b : Bool) → b ≡ empty_word (tree_at t w.left) → w.kind ≡ kind_of_sign concatenation
-      → pick b (Of w.right 0 Followed) Nothing ≡ right_side t i
-  right_after b q h = ap (λ (c : Bool). pick c (Of w.right 0 Followed) Nothing) q ∙ right_as (sign_kind concatenation) h
-
--- A concatenation's right side, where the left part has the empty word and where it has not: `right_side` names both in its attribute.
-module _ (t : Table) (i : ℕ) where
-  pub right_follows : (row t i).kind ≡ Kind.concatenation → empty_word (tree_at t (row t i).left) ≡ true → right_side t i ≡ Of (row t i).right 0 Followed
-  unfolding kind_of_sign
-  right_follows k e = sym (right_after t i refl true (sym e) k)
-
-  pub right_lacks : (row t i).kind ≡ Kind.concatenation → empty_word (tree_at t (row t i).left) ≡ false → right_side t i ≡ Nothing
-  unfolding kind_of_sign
-  right_lacks k e = sym (right_after t i refl false (sym e) k)
-
 -- ---- The lists
 
 -- A side without a join is the child's list.
-plain : {t : Table} {n : ℕ} → Rows t n → (a c : ℕ) → side_list a t (Of c 0 Followed) ≡ derivative a (tree_at t c)
+plain : {t : Table} {n : ℕ} → Rows t n → (a c : ℕ) → side_list a t (side_of c 0 Followed) ≡ derivative a (tree_at t c)
 plain {t} h a c =
     map_same (beside Followed (tree_at t 0)) (λ m. ap (λ o. beside Followed o m) h.literal ∙ beside_literal Followed m) (derivative a (tree_at t c))
 
-pub side_no_repeats : (a : ℕ) (t : Table) (side : Side) → NoRepeats (side_list a t side)
-side_no_repeats a t Nothing = tt
-side_no_repeats a t (Of child other join) =
-    map_no_repeats (beside join (tree_at t other)) (beside_tells join (tree_at t other)) (derivative a (tree_at t child))
-    (derivative_no_repeats a (tree_at t child))
+pub side_no_repeats : (a : ℕ) (t : Table) (side : Option Side) → NoRepeats (side_list a t side)
+side_no_repeats a t None = tt
+side_no_repeats a t (Some s) =
+    map_no_repeats (beside s.join (tree_at t s.other)) (beside_tells s.join (tree_at t s.other)) (derivative a (tree_at t s.child))
+    (derivative_no_repeats a (tree_at t s.child))
 
 module _ {t : Table} {n : ℕ} (h : Rows t n) (a i : ℕ) where
   -- The list of a row is that of these two sides.
-  abbrev Lists : Side → Side → Type 0
+  abbrev Lists : Option Side → Option Side → Type 0
   Lists b c = derivative a (tree_at t i) ≡ distinct same (side_list a t b ++ side_list a t c)
 
   -- A sign's list, by the sign.
@@ -110,12 +65,12 @@ module _ {t : Table} {n : ℕ} (h : Rows t n) (a i : ℕ) where
       ms : List Expression
       ms = map (λ z. joined concatenation z (tree_at t r)) (derivative a (tree_at t l))
 
-      go : (b : Bool) → distinct same (ms ++ cond b (derivative a (tree_at t r)) []) ≡ distinct same (ms ++ side_list a t (pick b (Of r 0 Followed) Nothing))
+      go : (b : Bool) → distinct same (ms ++ cond b (derivative a (tree_at t r)) []) ≡ distinct same (ms ++ side_list a t (pick b (side_of r 0 Followed) None))
       go true = ap (λ c. distinct same (ms ++ c)) (sym (plain h a r))
       go false = refl
   sign_lists shuffle l r e = e
 
-  star_lists : (l : ℕ) → tree_at t i ≡ star (tree_at t l) → Lists (Of l i Followed) Nothing
+  star_lists : (l : ℕ) → tree_at t i ≡ star (tree_at t l) → Lists (side_of l i Followed) None
   unfolding gathered
   star_lists l e =
       ap (derivative a) e ∙ derivative_gathered a (star (tree_at t l))

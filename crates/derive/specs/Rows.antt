@@ -1,14 +1,29 @@
 -- The expression columns on the way: the first n rows hold n different trees, each child before its parent, row 0 the literal empty
 -- word, and zero beyond. What comes to them where a tree is found or added, and what it is to have too little room.
-use Rattle.std.specs.Prelude.{ℕ, suc, ◌≤◌, ◌<◌, ◌≡◌, ◌⊎◌, length}
+use Rattle.std.specs.Prelude.{ℕ, suc, ◌≤◌, ◌<◌, ◌≡◌, ◌⊎◌, length, Option, Some, None, Result, Ok, Err}
 use mathlib.Core.List.{Memᴰ}
 use Rattle.theory.specs.Kind
 use Rattle.theory.specs.Limit.{most_expressions}
 use Rattle.theory.specs.Expression.{Expression, ε, parts}
 use Rattle.theory.specs.Distinct.{NoRepeats}
-use Rattle.theory.specs.Table.{Table, Row, row, entry, Sound, trees, tree_at}
-use Rattle.derive.specs.declared.rows.Interned.{Interned}
-use Rattle.derive.specs.declared.rows.Interned.TheVariants.{At, Full}
+use Rattle.theory.specs.Table.{Table, table, Row, row, entry, Sound, trees, tree_at}
+use Rattle.columns.specs.Kept.{Kept}
+use Rattle.derive.specs.declared.rows.Rows.{Rows as Lent}
+use Rattle.derive.specs.declared.rows.NoRoom.{NoRoom}
+
+-- ---- The code's columns
+
+abbrev pub rows_table : Lent → Table
+rows_table r = table r.kind.now r.left.now r.right.now
+
+-- The lent columns are those that were lent, and the room is the same.
+pub record SameRows (r r' : Lent) : Type 0 where
+  pub kind : Kept r.kind r'.kind
+  pub left : Kept r.left r'.left
+  pub right : Kept r.right r'.right
+  pub room : r'.room ≡ r.room
+
+-- ---- Rows
 
 pub record Rows (t : Table) (n : ℕ) : Type 0 where
   pub left_length : length t.left ≡ length t.kind
@@ -34,11 +49,14 @@ pub record SoundTo (t : Table) (i : ℕ) : Type 0 where
   pub in_right : i < length t.right
   pub sound : (j : ℕ) → j < suc i → Sound j (row t j)
 
--- The first row from `start` on that is w; n where none of the first n rows is.
-pub record FirstRow (t : Table) (n start : ℕ) (w : Row) (i : ℕ) : Type 0 where
-  pub within : i ≤ n
-  pub found : i < n → row t i ≡ w
-  pub before : (j : ℕ) → start ≤ j → j < i → row t j ≡ w → ⊥
+-- None of the rows from `start` up to i is w.
+pub record Passed (t : Table) (start : ℕ) (w : Row) (i : ℕ) : Type 0 where
+  pub other : (j : ℕ) → start ≤ j → j < i → row t j ≡ w → ⊥
+
+-- The first row from `start` on that is w; `None` where none of the first n rows is.
+abbrev pub FirstRow : Table → ℕ → ℕ → Row → Option ℕ → Type 0
+FirstRow t n start w (Some i) = (i < n) × (row t i ≡ w) × Passed t start w i
+FirstRow t n start w None = Passed t start w n
 
 -- ---- What comes
 
@@ -69,17 +87,17 @@ pub record Short (t : Table) (n room : ℕ) (Need : Expression → Type 0) (t' :
 
 -- ---- What finding or adding a tree gives
 
-abbrev pub Answers : Table → ℕ → ℕ → (Expression → Type 0) → Expression → Interned → Table → Type 0
-Answers t n room Need e (At i n') t' = Held t n room Need (λ z. z ≡ e) i t' n'
-Answers t n room Need e Full t' = Short t n room Need t'
+abbrev pub Answers : Table → ℕ → ℕ → (Expression → Type 0) → Expression → Result ℕ NoRoom → Table → ℕ → Type 0
+Answers t n room Need e (Ok i) t' n' = Held t n room Need (λ z. z ≡ e) i t' n'
+Answers t n room Need e (Err r) t' n' = Short t n room Need t'
 
-pub record Answered (t : Table) (n room : ℕ) (Need : Expression → Type 0) (e : Expression) (r : Interned) (t' : Table) : Type 0 where
-  pub answer : Answers t n room Need e r t'
+pub record Answered (t : Table) (n room : ℕ) (Need : Expression → Type 0) (e : Expression) (r : Result ℕ NoRoom) (t' : Table) (n' : ℕ) : Type 0 where
+  pub answer : Answers t n room Need e r t' n'
 
 -- The tree e, which alone is needed.
-abbrev pub Interns : Table → ℕ → ℕ → Expression → Interned → Table → Type 0
+abbrev pub Interns : Table → ℕ → ℕ → Expression → Result ℕ NoRoom → Table → ℕ → Type 0
 Interns t n room e = Answered t n room (λ z. z ≡ e) e
 
 -- The tree e with its parts.
-abbrev pub Takes : Table → ℕ → ℕ → Expression → Interned → Table → Type 0
+abbrev pub Takes : Table → ℕ → ℕ → Expression → Result ℕ NoRoom → Table → ℕ → Type 0
 Takes t n room e = Answered t n room (λ z. Memᴰ z (parts e)) e

@@ -1,21 +1,13 @@
 -- One step along the list of a derivative that is stored nowhere: the member after a given one, or the first.
-use Rattle.std.specs.Prelude.{ℕ, ◌<◌, ◌≡◌, Bool, true, false}
-use Rattle.std.proofs.Math.Option.{Option, none, some}
+use Rattle.std.specs.Prelude.{ℕ, ◌<◌, ◌≡◌, Bool, true, false, Option, Some, None, Result, Ok, Err}
 use mathlib.Core.List.{List, [], ◌∷◌, Memᴰ}
 use Rattle.theory.specs.Expression.{Expression, same, parts}
 use Rattle.theory.specs.Distinct.{beyond}
 use Rattle.theory.specs.Derivative.{derivative}
 use Rattle.theory.specs.Table.{Table, tree_at}
-use Rattle.derive.specs.declared.rows.Interned.{Interned}
-use Rattle.derive.specs.declared.rows.Interned.TheVariants.{At, Full}
+use Rattle.derive.specs.declared.rows.NoRoom.{NoRoom}
 use Rattle.derive.specs.declared.sides.Join.{Join}
 use Rattle.derive.specs.declared.sides.Side.{Side}
-use Rattle.derive.specs.declared.sides.Lowered.{Lowered}
-use Rattle.derive.specs.declared.sides.Lowered.TheVariants.{Member, Outside}
-use Rattle.derive.specs.declared.walk.Place.{Place}
-use Rattle.derive.specs.declared.walk.Place.TheVariants.{Start, Behind}
-use Rattle.derive.specs.declared.walk.Stepped.{Stepped}
-use Rattle.derive.specs.declared.walk.Stepped.TheVariants.{Found, End, NoRoom}
 use Rattle.derive.specs.Rows.{Rows, SoundTo, Came, Held, Short}
 use Rattle.derive.specs.Sides.{side_list, lowered, WithinRow}
 
@@ -35,34 +27,30 @@ behind p [] = []
 behind p (x ∷ xs) = let r = behind p xs in if_yes (same p x) xs r
 
 abbrev pub first_of : List Expression → Option Expression
-first_of [] = none
-first_of (x ∷ xs) = some x
+first_of [] = None
+first_of (x ∷ xs) = Some x
 
--- ---- Places
+-- ---- Places: `None`, the start of a list, or one of its members, as a row
 
 -- The members still to come.
-abbrev pub to_come : Table → Place → List Expression → List Expression
-to_come t Start ms = ms
-to_come t (Behind p) ms = behind (tree_at t p) ms
+abbrev pub to_come : Table → Option ℕ → List Expression → List Expression
+to_come t None ms = ms
+to_come t (Some p) ms = behind (tree_at t p) ms
 
 -- A place in a list: its start, or one of its members, as a row.
-abbrev pub InList : Table → ℕ → Place → List Expression → Type 0
-InList t n Start ms = Unit {0}
-InList t n (Behind p) ms = (p < n) × Memᴰ (tree_at t p) ms
+abbrev pub InList : Table → ℕ → Option ℕ → List Expression → Type 0
+InList t n None ms = Unit {0}
+InList t n (Some p) ms = (p < n) × Memᴰ (tree_at t p) ms
 
 -- The walk of the list ms goes on from a place: its start, or one of its members.
-abbrev pub Stands : Table → Place → List Expression → Type 0
-Stands t Start ms = Unit {0}
-Stands t (Behind p) ms = Memᴰ (tree_at t p) ms
+abbrev pub Stands : Table → Option ℕ → List Expression → Type 0
+Stands t None ms = Unit {0}
+Stands t (Some p) ms = Memᴰ (tree_at t p) ms
 
 -- The place in the child's list that the join takes to a place in the side's list.
-abbrev pub behind_lowered : Lowered → Place
-behind_lowered (Member m) = Behind m
-behind_lowered Outside = Start
-
-abbrev pub lowered_place : Table → ℕ → Join → Place → Place
-lowered_place t other join Start = Start
-lowered_place t other join (Behind p) = behind_lowered (lowered t other join p)
+abbrev pub lowered_place : Table → ℕ → Join → Option ℕ → Option ℕ
+lowered_place t other join None = None
+lowered_place t other join (Some p) = lowered t other join p
 
 -- ---- A step
 
@@ -73,31 +61,26 @@ PartOf ms z = (m : Expression) × Memᴰ m ms × Memᴰ z (parts m)
 -- The list is at its end.
 pub record Ended (t : Table) (n room : ℕ) (ms xs : List Expression) (t' : Table) (n' : ℕ) : Type 0 where
   pub came : Came t n room (PartOf ms) t' n'
-  pub nothing_left : first_of xs ≡ none
+  pub nothing_left : first_of xs ≡ None
 
 -- What a step gives where xs are the members to come of the list ms: the first of xs, as a row, or the end.
-abbrev pub Outcome : Table → ℕ → ℕ → List Expression → List Expression → Stepped → Table → Type 0
-Outcome t n room ms xs (Found i n') t' = Held t n room (PartOf ms) (λ z. first_of xs ≡ some z) i t' n'
-Outcome t n room ms xs (End n') t' = Ended t n room ms xs t' n'
-Outcome t n room ms xs NoRoom t' = Short t n room (PartOf ms) t'
+abbrev pub Outcome : Table → ℕ → ℕ → List Expression → List Expression → Result (Option ℕ) NoRoom → Table → ℕ → Type 0
+Outcome t n room ms xs (Ok (Some i)) t' n' = Held t n room (PartOf ms) (λ z. first_of xs ≡ Some z) i t' n'
+Outcome t n room ms xs (Ok None) t' n' = Ended t n room ms xs t' n'
+Outcome t n room ms xs (Err r) t' n' = Short t n room (PartOf ms) t'
 
-pub record Gives (t : Table) (n room : ℕ) (ms xs : List Expression) (r : Stepped) (t' : Table) : Type 0 where
-  pub outcome : Outcome t n room ms xs r t'
+pub record Gives (t : Table) (n room : ℕ) (ms xs : List Expression) (r : Result (Option ℕ) NoRoom) (t' : Table) (n' : ℕ) : Type 0 where
+  pub outcome : Outcome t n room ms xs r t' n'
 
 -- A step along the list ms from a place in it.
-abbrev pub Steps : Table → ℕ → ℕ → List Expression → Place → Stepped → Table → Type 0
+abbrev pub Steps : Table → ℕ → ℕ → List Expression → Option ℕ → Result (Option ℕ) NoRoom → Table → ℕ → Type 0
 Steps t n room ms p = Gives t n room ms (to_come t p ms)
 
 -- A step along a letter's list: the literal empty word, row 0, where the letter is the one asked for, and then the end.
-abbrev pub letter_step : Bool → Place → ℕ → Stepped
-letter_step true Start used = Found 0 used
-letter_step true (Behind p) used = End used
-letter_step false p used = End used
-
--- The step of a member that was found or added.
-abbrev pub reached : Interned → Stepped
-reached (At row used) = Found row used
-reached Full = NoRoom
+abbrev pub letter_step : Bool → Option ℕ → Option ℕ
+letter_step true None = Some 0
+letter_step true (Some p) = None
+letter_step false p = None
 
 -- ---- The same over the rows of a table
 
@@ -108,45 +91,45 @@ pub record RowAmong (t : Table) (i m : ℕ) : Type 0 where
   pub row_in : i < count
   pub member_in : m < count
 
-pub record SideAmong (t : Table) (side : Side) (m : ℕ) : Type 0 where
+pub record SideAmong (t : Table) (side : Option Side) (m : ℕ) : Type 0 where
   pub count : ℕ
   pub rows : Rows t count
   pub side_in : WithinRow count count side
   pub member_in : m < count
 
-abbrev pub PlaceAmong : Table → Side → Place → Type 0
-PlaceAmong t side Start = Unit {0}
-PlaceAmong t side (Behind p) = SideAmong t side p
+abbrev pub PlaceAmong : Table → Option Side → Option ℕ → Type 0
+PlaceAmong t side None = Unit {0}
+PlaceAmong t side (Some p) = SideAmong t side p
 
 -- The row of a place stands in the columns.
-abbrev pub PlaceWithin : Table → Place → Type 0
-PlaceWithin t Start = Unit {0}
-PlaceWithin t (Behind p) = SoundTo t p
+abbrev pub PlaceWithin : Table → Option ℕ → Type 0
+PlaceWithin t None = Unit {0}
+PlaceWithin t (Some p) = SoundTo t p
 
 -- Whether row m's tree is a member of row i's list, or of a side's.
 abbrev pub RowHas : Table → ℕ → ℕ → ℕ → Bool → Type 0
 RowHas t a i m r = Tells r (Memᴰ (tree_at t m) (derivative a (tree_at t i)))
 
-abbrev pub SideHas : Table → ℕ → Side → ℕ → Bool → Type 0
+abbrev pub SideHas : Table → ℕ → Option Side → ℕ → Bool → Type 0
 SideHas t a side m r = Tells r (Memᴰ (tree_at t m) (side_list a t side))
 
 -- Whether the walk of a side's list goes on from a place.
-abbrev pub SideStands : Table → ℕ → Side → Place → Bool → Type 0
+abbrev pub SideStands : Table → ℕ → Option Side → Option ℕ → Bool → Type 0
 SideStands t a side p r = Tells r (Stands t p (side_list a t side))
 
 -- A place in row i's list, or in a side's.
-abbrev pub RowPlace : Table → ℕ → ℕ → ℕ → Place → Type 0
+abbrev pub RowPlace : Table → ℕ → ℕ → ℕ → Option ℕ → Type 0
 RowPlace t n a i p = InList t n p (derivative a (tree_at t i))
 
-abbrev pub SidePlace : Table → ℕ → ℕ → Side → Place → Type 0
+abbrev pub SidePlace : Table → ℕ → ℕ → Option Side → Option ℕ → Type 0
 SidePlace t n a side p = InList t n p (side_list a t side)
 
 -- A step along row i's list, along a side's, and along what the side y has beyond the side x.
-abbrev pub RowSteps : Table → ℕ → ℕ → ℕ → ℕ → Place → Stepped → Table → Type 0
+abbrev pub RowSteps : Table → ℕ → ℕ → ℕ → ℕ → Option ℕ → Result (Option ℕ) NoRoom → Table → ℕ → Type 0
 RowSteps t n room a i p = Steps t n room (derivative a (tree_at t i)) p
 
-abbrev pub SideSteps : Table → ℕ → ℕ → ℕ → Side → Place → Stepped → Table → Type 0
+abbrev pub SideSteps : Table → ℕ → ℕ → ℕ → Option Side → Option ℕ → Result (Option ℕ) NoRoom → Table → ℕ → Type 0
 SideSteps t n room a side p = Steps t n room (side_list a t side) p
 
-abbrev pub FreshSteps : Table → ℕ → ℕ → ℕ → Side → Side → Place → Stepped → Table → Type 0
+abbrev pub FreshSteps : Table → ℕ → ℕ → ℕ → Option Side → Option Side → Option ℕ → Result (Option ℕ) NoRoom → Table → ℕ → Type 0
 FreshSteps t n room a x y p = Gives t n room (side_list a t y) (beyond same (side_list a t x) (to_come t p (side_list a t y)))

@@ -2,27 +2,28 @@
 
 ghost use Rattle.std.specs.Prelude.{◌≡◌, ℕ, ◌≤◌, length};
 ghost use Rattle.theory.specs.Limit.{most_expressions};
-ghost use Rattle.theory.specs.Table.{table, entry, Sound, trees, row_tree};
+ghost use Rattle.theory.specs.Meant.{as_sign};
+ghost use Rattle.theory.specs.Table.{entry, kind_of_sign, Sound, trees, row_tree};
 ghost use Rattle.columns.specs.Row.{as_row};
-ghost use Rattle.derive.specs.Rows.{Fitted, FirstRow, Interns};
+ghost use Rattle.columns.specs.Table.{read_table};
+ghost use Rattle.derive.specs.Rows.{rows_table, SameRows, Fitted, FirstRow, Interns};
 
-use super::rows::Interned;
-use columns::{Children, Row};
+use super::rows::{NoRoom, Rows};
+use columns::row::{Children, Row};
+use columns::table::Table;
+use theory::kind::{Kind, Sign};
 
-// The first row from `start` on that is w, or `used` where there is none.
-fn find(kind: &[u8], left: &[u16], right: &[u16], used: usize, start: usize, w: Row) -> usize
-    requires { (used ≤ length kind.now) × (used ≤ length left.now) × (used ≤ length right.now) }
-    ensures { FirstRow (table kind.now left.now right.now) used start (as_row w) result }
+// The first of the rows from `start` up to `used` that is w.
+fn find(table: Table<'_>, start: usize, used: usize, w: Row) -> Option<usize>
+    requires { (used ≤ length table.kind.now) × (used ≤ length table.left.now) × (used ≤ length table.right.now) }
+    ensures { FirstRow (read_table table.entry) used start (as_row w) result }
 {
-    let mut i = start;
-    while i < used {
-        let v = columns::row_at(kind, left, right, i);
-        if (v.kind == w.kind) & (v.left == w.left) & (v.right == w.right) {
-            return i;
+    for i in start..used {
+        if table.row(i) == w {
+            return Some(i);
         }
-        i += 1;
     }
-    used
+    None
 }
 
 // No row before a child can be its parent's.
@@ -32,47 +33,41 @@ fn search_start(w: Row) -> usize
     match w.children() {
         Children::Nothing => 0,
         Children::One { child } => child,
-        Children::Two { left, right } => if left < right { right } else { left },
+        Children::Two { left, right } => left.max(right),
     }
 }
 
-pub fn intern(
-    kind: &mut [u8],
-    left: &mut [u16],
-    right: &mut [u16],
-    used: usize,
-    room: usize,
-    w: Row,
-) -> Interned
-    requires fitted { Fitted (table kind.old left.old right.old) used room }
-    requires sound { Sound used (as_row w) }
-    ensures { Interns (table kind.old left.old right.old) used room
-        (row_tree (as_row w) (trees (table kind.old left.old right.old) used)) result
-        (table kind.new left.new right.new) }
-{
-    let row = find(kind, left, right, used, search_start(w), w);
-    if row < used {
-        return Interned::At { row, used };
-    }
-    if room <= used {
-        return Interned::Full;
-    }
-    kind[used] = w.kind;
-    left[used] = w.left;
-    right[used] = w.right;
-    Interned::At {
-        row: used,
-        used: used + 1,
+impl Rows<'_> {
+    pub(super) fn intern(&mut self, w: Row) -> Result<usize, NoRoom>
+        requires fitted { Fitted (rows_table self.old) self.old.used self.old.room }
+        requires sound { Sound self.old.used (as_row w) }
+        ensures same { SameRows self.old self.new }
+        ensures interns { Interns (rows_table self.old) self.old.used self.old.room
+            (row_tree (as_row w) (trees (rows_table self.old) self.old.used)) result (rows_table self.new) self.new.used }
+    {
+        let row = self.used;
+        if let Some(row) = find(self.view(), search_start(w), row, w) {
+            return Ok(row);
+        }
+        if self.room <= row {
+            return Err(NoRoom);
+        }
+        self.kind[row] = w.kind;
+        self.left[row] = w.left;
+        self.right[row] = w.right;
+        self.used = row + 1;
+        Ok(row)
     }
 }
 
-// A sign's row over the rows x and y. Whatever makes one makes it here.
-pub fn pair(sign: u8, x: usize, y: usize) -> Row
+// A sign's row over the rows x and y.
+#[tactic(auto, unfolding(theory::specs::Table::kind_of_sign))]
+pub fn pair(sign: Sign, x: usize, y: usize) -> Row
     requires { (x ≤ most_expressions) × (y ≤ most_expressions) }
-    ensures { as_row result ≡ entry sign x y }
+    ensures { as_row result ≡ entry (kind_of_sign (as_sign sign)) x y }
 {
     Row {
-        kind: sign,
+        kind: Kind::Sign(sign).number(),
         left: x as u16,
         right: y as u16,
     }

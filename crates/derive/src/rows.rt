@@ -2,83 +2,91 @@
 
 ghost use Rattle.std.specs.Prelude.{◌≡◌};
 ghost use Rattle.theory.specs.Derivative.{empty_word};
-ghost use Rattle.theory.specs.Table.{table, tree_at};
-ghost use Rattle.derive.specs.Rows.{Fitted, SoundTo, Takes};
+ghost use Rattle.theory.specs.Table.{tree_at};
+ghost use Rattle.columns.specs.Table.{read_table};
+ghost use Rattle.derive.specs.Rows.{rows_table, SameRows, Fitted, SoundTo, Takes};
 
-use columns::{Children, Row};
-use theory::kind;
+use columns::row::{Children, Row};
+use columns::table::Table;
+use theory::kind::{Kind, Sign};
 
-// A row with the number of rows that are used now, or no room for it.
+// The lent columns, how many of their rows are used now, and how many may be. That they are `Fitted` stands in each function's clauses
+// and not here: between the three writes of a row it does not hold.
 #[derive(Drop)]
-pub enum Interned {
-    At { row: usize, used: usize },
-    Full,
+pub struct Rows<'a> {
+    pub kind: &'a mut [u8],
+    pub left: &'a mut [u16],
+    pub right: &'a mut [u16],
+    pub used: usize,
+    pub room: usize,
 }
 
-// 01: "the answer for the empty word follows from an entry's children down to the leaves".
-pub fn empty_word(kind: &[u8], left: &[u16], right: &[u16], row: usize) -> bool
-    requires { SoundTo (table kind.now left.now right.now) row }
-    ensures { result ≡ empty_word (tree_at (table kind.now left.now right.now) row) }
-{
-    let w = columns::row_at(kind, left, right, row);
-    match w.children() {
-        Children::Nothing => w.kind == kind::EMPTY_WORD,
-        Children::One { child: _ } => true,
-        Children::Two { left: l, right: r } => {
-            let a = empty_word(kind, left, right, l);
-            let b = empty_word(kind, left, right, r);
-            if w.kind == kind::UNION { a | b } else { a & b }
+// 01, refusal 9: a row is needed, and the room is used up.
+#[derive(Clone, Copy, PartialEq, Eq)]
+pub struct NoRoom;
+
+impl Rows<'_> {
+    pub fn view(&self) -> Table<'_>
+        ensures { read_table result ≡ rows_table self.now }
+    {
+        Table {
+            kind: self.kind,
+            left: self.left,
+            right: self.right,
+        }
+    }
+
+    // The row of the tree of an entry of the given table, which is added with all its parts.
+    pub fn take_over(&mut self, given: Table<'_>, e: usize) -> Result<usize, NoRoom>
+        requires sound_to { SoundTo (read_table given) e }
+        requires fitted { Fitted (rows_table self.old) self.old.used self.old.room }
+        ensures same { SameRows self.old self.new }
+        ensures takes { Takes (rows_table self.old) self.old.used self.old.room
+            (tree_at (read_table given.entry) e) result (rows_table self.new) self.new.used }
+    {
+        let w = given.row(e);
+        match w.children() {
+            Children::Nothing => self.intern(w),
+            Children::One { child } => {
+                let x = self.take_over(given, child)?;
+                self.intern(Row {
+                    left: x as u16,
+                    ..w
+                })
+            }
+            Children::Two { left, right } => {
+                let x = self.take_over(given, left)?;
+                let y = self.take_over(given, right)?;
+                self.intern(Row {
+                    left: x as u16,
+                    right: y as u16,
+                    ..w
+                })
+            }
         }
     }
 }
 
-// The tree of an entry of the given table, with all its parts, as a row.
-pub fn take_over(
-    gkind: &[u8],
-    gleft: &[u16],
-    gright: &[u16],
-    e: usize,
-    kind: &mut [u8],
-    left: &mut [u16],
-    right: &mut [u16],
-    used: usize,
-    room: usize,
-) -> Interned
-    requires sound_to { SoundTo (table gkind.now gleft.now gright.now) e }
-    requires fitted { Fitted (table kind.old left.old right.old) used room }
-    ensures { Takes (table kind.old left.old right.old) used room
-        (tree_at (table gkind.now gleft.now gright.now) e) result
-        (table kind.new left.new right.new) }
+// 01: "the answer for the empty word follows from an entry's children down to the leaves".
+pub fn empty_word(table: Table<'_>, row: usize) -> bool
+    requires { SoundTo (read_table table) row }
+    ensures { result ≡ empty_word (tree_at (read_table table.entry) row) }
 {
-    let w = columns::row_at(gkind, gleft, gright, e);
-    match w.children() {
-        Children::Nothing => super::intern::intern(kind, left, right, used, room, w),
-        Children::One { child } => {
-            match take_over(gkind, gleft, gright, child, kind, left, right, used, room) {
-                Interned::At { row: x, used: u } => {
-                    let starred = Row {
-                        kind: kind::STAR,
-                        left: x as u16,
-                        right: 0,
-                    };
-                    super::intern::intern(kind, left, right, u, room, starred)
-                }
-                full => full,
+    let w = table.row(row);
+    let Some(kind) = Kind::of(w.kind) else {
+        return false;
+    };
+    match kind {
+        Kind::EmptyWord => true,
+        Kind::Sign(sign) => {
+            let a = empty_word(table, w.left as usize);
+            let b = empty_word(table, w.right as usize);
+            match sign {
+                Sign::Union => a | b,
+                _ => a & b,
             }
         }
-        Children::Two { left: l, right: r } => {
-            match take_over(gkind, gleft, gright, l, kind, left, right, used, room) {
-                Interned::At { row: x, used: u } => {
-                    match take_over(gkind, gleft, gright, r, kind, left, right, u, room) {
-                        Interned::At { row: y, used: v } => {
-                            let paired = super::intern::pair(w.kind, x, y);
-                            super::intern::intern(kind, left, right, v, room, paired)
-                        }
-                        full => full,
-                    }
-                }
-                full => full,
-            }
-        }
+        Kind::Star => true,
+        _ => false,
     }
 }

@@ -2,15 +2,17 @@
 
 ghost use Rattle.std.specs.Prelude.{◌≡◌, ◌≤◌, ◌<◌, not, ◌&&◌, eqb};
 ghost use Rattle.theory.specs.Limit.{most_expressions};
-ghost use Rattle.theory.specs.Table.{table, tree_at, entry, kind_of_sign};
+ghost use Rattle.theory.specs.Table.{tree_at, entry, kind_of_sign};
 ghost use Rattle.columns.specs.Row.{as_row};
-ghost use Rattle.derive.specs.Rows.{Fitted, SoundTo, Interns};
+ghost use Rattle.columns.specs.Table.{read_table};
+ghost use Rattle.derive.specs.Rows.{rows_table, SameRows, Fitted, SoundTo, Interns};
 ghost use Rattle.derive.specs.Sides.{join_sign, arranged, beside, left_side, right_side, choose, parted, lowered};
 
-use super::intern::{intern, pair};
-use super::rows::Interned;
-use columns::Row;
-use theory::kind;
+use super::intern::pair;
+use super::rows::{NoRoom, Rows, empty_word};
+use columns::row::Row;
+use columns::table::Table;
+use theory::kind::{Kind, Sign};
 
 // A member followed by the other tree, shuffled with it, or with the other shuffled with the member.
 #[derive(Clone, Copy)]
@@ -22,170 +24,141 @@ pub enum Join {
 
 // The members of `child`, each joined with `other`.
 #[derive(Clone, Copy)]
-pub enum Side {
-    Nothing,
-    Of {
-        child: usize,
-        other: usize,
-        join: Join,
-    },
+pub struct Side {
+    pub child: usize,
+    pub other: usize,
+    pub join: Join,
 }
 
-#[derive(Drop)]
-pub enum Lowered {
-    Member { row: usize },
-    Outside,
-}
-
-pub fn left_side(kind: &[u8], left: &[u16], right: &[u16], row: usize) -> Side
-    requires { SoundTo (table kind.now left.now right.now) row }
-    ensures { result ≡ left_side (table kind.now left.now right.now) row }
+#[tactic(auto, unfolding(crate::specs::Sides::left_side))]
+pub fn left_side(table: Table<'_>, row: usize) -> Option<Side>
+    requires { SoundTo (read_table table) row }
+    ensures { result ≡ left_side (read_table table.entry) row }
 {
-    let w = columns::row_at(kind, left, right, row);
-    let k = w.kind;
+    let w = table.row(row);
     let child = w.left as usize;
-    let other = w.right as usize;
-    match k {
-        kind::UNION => Side::Of {
-            child,
-            other: 0,
-            join: Join::Followed,
+    let right = w.right as usize;
+    let (other, join) = match Kind::of(w.kind)? {
+        Kind::Sign(sign) => match sign {
+            Sign::Union => (0, Join::Followed),
+            Sign::Concatenation => (right, Join::Followed),
+            Sign::Shuffle => (right, Join::Shuffled),
         },
-        kind::CONCATENATION => Side::Of {
-            child,
-            other,
-            join: Join::Followed,
-        },
-        kind::SHUFFLE => Side::Of {
-            child,
-            other,
-            join: Join::Shuffled,
-        },
-        kind::STAR => Side::Of {
-            child,
-            other: row,
-            join: Join::Followed,
-        },
-        _ => Side::Nothing,
-    }
+        Kind::Star => (row, Join::Followed),
+        _ => return None,
+    };
+    Some(Side { child, other, join })
 }
 
-#[tactic(auto, using(crate::proofs::Siding::right_follows, crate::proofs::Siding::right_lacks))]
-pub fn right_side(kind: &[u8], left: &[u16], right: &[u16], row: usize) -> Side
-    requires { SoundTo (table kind.now left.now right.now) row }
-    ensures { result ≡ right_side (table kind.now left.now right.now) row }
+#[tactic(auto, unfolding(crate::specs::Sides::right_side))]
+pub fn right_side(table: Table<'_>, row: usize) -> Option<Side>
+    requires { SoundTo (read_table table) row }
+    ensures { result ≡ right_side (read_table table.entry) row }
 {
-    let w = columns::row_at(kind, left, right, row);
-    let k = w.kind;
-    let x = w.left as usize;
-    let y = w.right as usize;
-    match k {
-        kind::UNION => Side::Of {
-            child: y,
-            other: 0,
-            join: Join::Followed,
-        },
-        kind::CONCATENATION => {
-            if super::rows::empty_word(kind, left, right, x) {
-                Side::Of {
-                    child: y,
-                    other: 0,
-                    join: Join::Followed,
-                }
-            } else {
-                Side::Nothing
+    let w = table.row(row);
+    let left = w.left as usize;
+    let child = w.right as usize;
+    let Kind::Sign(sign) = Kind::of(w.kind)? else {
+        return None;
+    };
+    let (other, join) = match sign {
+        Sign::Union => (0, Join::Followed),
+        Sign::Concatenation => {
+            if !empty_word(table, left) {
+                return None;
             }
+            (0, Join::Followed)
         }
-        kind::SHUFFLE => Side::Of {
-            child: y,
-            other: x,
-            join: Join::Shuffles,
-        },
-        _ => Side::Nothing,
-    }
+        Sign::Shuffle => (left, Join::Shuffles),
+    };
+    Some(Side { child, other, join })
 }
 
 // The row of the join where neither tree is the literal empty word.
+#[tactic(auto, unfolding(theory::specs::Table::kind_of_sign))]
 fn joined(join: Join, other: usize, member: usize) -> Row
     requires { (other ≤ most_expressions) × (member ≤ most_expressions) }
     ensures { as_row result ≡ arranged join (entry (kind_of_sign (join_sign join))) member other }
 {
     match join {
-        Join::Followed => pair(kind::CONCATENATION, member, other),
-        Join::Shuffled => pair(kind::SHUFFLE, member, other),
-        Join::Shuffles => pair(kind::SHUFFLE, other, member),
+        Join::Followed => pair(Sign::Concatenation, member, other),
+        Join::Shuffled => pair(Sign::Shuffle, member, other),
+        Join::Shuffles => pair(Sign::Shuffle, other, member),
     }
 }
 
-// The row of a member joined with `other`.
-pub fn lift(
-    kind: &mut [u8],
-    left: &mut [u16],
-    right: &mut [u16],
-    used: usize,
-    room: usize,
-    other: usize,
-    join: Join,
-    member: usize,
-) -> Interned
-    requires fitted { Fitted (table kind.old left.old right.old) used room }
-    requires other_lt_used { (other < used) × (member < used) }
-    ensures { Interns (table kind.old left.old right.old) used room
-        (beside join (tree_at (table kind.old left.old right.old) other)
-        (tree_at (table kind.old left.old right.old) member)) result
-        (table kind.new left.new right.new) }
-{
-    if other == 0 {
-        return Interned::At { row: member, used };
+impl Rows<'_> {
+    // The row of a member joined with the side's other tree.
+    pub(super) fn lift(&mut self, side: Side, member: usize) -> Result<usize, NoRoom>
+        requires fitted { Fitted (rows_table self.old) self.old.used self.old.room }
+        requires other_lt_used { (side.other < self.old.used) × (member < self.old.used) }
+        ensures same { SameRows self.old self.new }
+        ensures interns { Interns (rows_table self.old) self.old.used self.old.room
+            (beside side.join (tree_at (rows_table self.old) side.other) (tree_at (rows_table self.old) member))
+            result (rows_table self.new) self.new.used }
+    {
+        if side.other == 0 {
+            return Ok(member);
+        }
+        if member == 0 {
+            return Ok(side.other);
+        }
+        self.intern(joined(side.join, side.other, member))
     }
-    if member == 0 {
-        return Interned::At { row: other, used };
-    }
-    intern(kind, left, right, used, room, joined(join, other, member))
 }
 
 // The member of a pair, as a row, where the tree beside it is `other`. A join with the literal empty word is never made, though the
 // given expression may hold one.
-fn kept(signed: bool, member: usize, o: usize, other: usize) -> Lowered
-    ensures { result ≡ choose (signed && eqb o other && not (eqb member 0)) (Lowered.Member member) Lowered.Outside }
+fn kept(signed: bool, member: usize, o: usize, other: usize) -> Option<usize>
+    ensures { result ≡ choose (signed && eqb o other && not (eqb member 0)) (Some member) None }
 {
     if signed & (o == other) & (member != 0) {
-        Lowered::Member { row: member }
+        Some(member)
     } else {
-        Lowered::Outside
+        None
     }
 }
 
-// The member of the row w, where w is a join with `other`.
-fn parted(w: Row, join: Join, other: usize) -> Lowered
-    ensures { result ≡ parted (as_row w) join other }
+// The member of the row w, where w is a join with the side's other tree.
+#[tactic(auto, unfolding(crate::specs::Sides::parted, theory::specs::Table::kind_of_sign))]
+fn parted(w: Row, side: Side) -> Option<usize>
+    ensures { result ≡ parted (as_row w) side.join side.other }
 {
     let x = w.left as usize;
     let y = w.right as usize;
-    match join {
-        Join::Followed => kept(w.kind == kind::CONCATENATION, x, y, other),
-        Join::Shuffled => kept(w.kind == kind::SHUFFLE, x, y, other),
-        Join::Shuffles => kept(w.kind == kind::SHUFFLE, y, x, other),
+    match side.join {
+        Join::Followed => kept(
+            w.kind == Kind::Sign(Sign::Concatenation).number(),
+            x,
+            y,
+            side.other,
+        ),
+        Join::Shuffled => kept(
+            w.kind == Kind::Sign(Sign::Shuffle).number(),
+            x,
+            y,
+            side.other,
+        ),
+        Join::Shuffles => kept(
+            w.kind == Kind::Sign(Sign::Shuffle).number(),
+            y,
+            x,
+            side.other,
+        ),
     }
 }
 
-// The member whose join with `other` is the row p.
-pub fn lower(
-    kind: &[u8],
-    left: &[u16],
-    right: &[u16],
-    other: usize,
-    join: Join,
-    p: usize,
-) -> Lowered
-    requires { SoundTo (table kind.now left.now right.now) p }
-    ensures { result ≡ lowered (table kind.now left.now right.now) other join p }
+// The member whose join with the side's other tree is the row p.
+#[tactic(auto, unfolding(crate::specs::Sides::lowered))]
+pub fn lower(table: Table<'_>, side: Side, p: usize) -> Option<usize>
+    requires { SoundTo (read_table table) p }
+    ensures { result ≡ lowered (read_table table.entry) side.other side.join p }
 {
-    if other == 0 {
-        return Lowered::Member { row: p };
+    if side.other == 0 {
+        return Some(p);
     }
-    if p == other {
-        return Lowered::Member { row: 0 };
+    if p == side.other {
+        return Some(0);
     }
-    parted(columns::row_at(kind, left, right, p), join, other)
+    parted(table.row(p), side)
 }

@@ -1,109 +1,110 @@
--- What a taken line is: the bytes that stood in the lent block, up to a newline; where they do not reach one, what a read put into the block
--- after them. What a read puts there is the source's to say.
-use Rattle.std.specs.Prelude.{ℕ, ◌+◌, ◌≤◌, ◌<◌, ◌≡◌, Bool, true, false, cond, ◌⊎◌, length, take, eqb}
+-- What a taken line is: the bytes that stood in the block, up to a newline; where they do not reach one, what a read put into the block after
+-- them. What a read puts there is the source's to say.
+use Rattle.std.specs.Prelude.{ℕ, ◌+◌, ◌<◌, ◌≤◌, ◌≡◌, Bool, true, false, cond, ◌⊎◌, length, take, drop, eqb, Option, None, Some, Result, Ok, Err}
 use mathlib.Core.List.{List, [], ◌∷◌, ◌++◌, Memᴰ}
 use Rattle.std.proofs.Math.Seq.{slice}
 use Rattle.theory.specs.Lines.{newline}
-use Rattle.lines.specs.declared.input.Input.{Input}
-use Rattle.lines.specs.declared.input.Filled.{Filled}
-use Rattle.lines.specs.declared.input.Filled.TheVariants as filled
-use Rattle.lines.specs.declared.input.Next.{Next}
-use Rattle.lines.specs.declared.input.Next.TheVariants as next
+use Rattle.lines.specs.declared.failure.Failure.{Failure}
+use Rattle.lines.specs.declared.failure.Failure.TheVariants.{Read, Write}
 use Rattle.lines.specs.declared.input.Line.{Line}
-use Rattle.lines.specs.declared.input.Line.TheVariants.{None, Ended, Full, Failed}
-use Rattle.lines.specs.declared.input.Passed.{Passed}
-use Rattle.lines.specs.declared.input.Passed.TheVariants as rest
+use Rattle.lines.specs.declared.input.Line.TheVariants.{Ended, Full}
 
--- The bytes that are not taken yet stand in the block.
-pub record Inside (input : Input) (block : List ℕ) : Type 0 where
-  pub ordered : input.at ≤ input.end
-  pub within : input.end ≤ length block
+-- What the code's input holds: the bytes of its block that are taken, those that are read and not yet taken, and those after them.
+pub record Input : Type 0 where
+  pub taken : List ℕ
+  pub untaken : List ℕ
+  pub spare : List ℕ
 
-abbrev pub untaken : List ℕ → Input → List ℕ
-untaken block input = slice input.at input.end block
+-- Of a block, where so many bytes are taken and so many are read.
+abbrev pub input_of : (block : List ℕ) (at end : ℕ) → Input
+input_of block at end = record { taken = take at block; untaken = slice at end block; spare = drop end block }
+
+-- Nothing is read yet.
+pub record Starts (input : Input) : Type 0 where
+  pub taken : input.taken ≡ []
+  pub untaken : input.untaken ≡ []
 
 -- The bytes that a call took, and where it leaves the input: what was untaken, and after it what came by reads, is what was taken, and after it
 -- what is untaken now. Nothing comes, and the block and its end stay as they are, unless more is taken than stood there.
-pub record Taken (block : List ℕ) (input : Input) (bytes block' : List ℕ) (input' : Input) : Type 0 where
+pub record Taken (input : Input) (bytes : List ℕ) (input' : Input) : Type 0 where
   pub came : List ℕ
-  pub all : untaken block input ++ came ≡ bytes ++ untaken block' input'
-  pub asked : ((came ≡ []) × (block' ≡ block) × (input'.end ≡ input.end)) ⊎ (length (untaken block input) < length bytes)
+  pub all : input.untaken ++ came ≡ bytes ++ input'.untaken
+  pub asked : ((came ≡ []) × (input'.taken ≡ input.taken ++ bytes) × (input'.spare ≡ input.spare)) ⊎ (length input.untaken < length bytes)
 
 -- How much of the block a read filled.
-abbrev pub Fills : Filled → List ℕ → Type 0
-Fills (filled.To end) block = (0 < end) × (end ≤ length block)
-Fills filled.End block = Unit {0}
-Fills filled.Failed block = Unit {0}
+abbrev pub Fills : Result (Option ℕ) Failure → List ℕ → Type 0
+Fills (Ok (Some end)) block = (0 < end) × (end ≤ length block)
+Fills (Ok None) block = Unit {0}
+Fills (Err Read) block = Unit {0}
+Fills (Err Write) block = ⊥
 
-abbrev pub Nexts : List ℕ → Input → Next → List ℕ → Type 0
-Nexts block input (next.Byte b input') block' = Inside input' block' × Taken block input (b ∷ []) block' input'
-Nexts block input next.End block' = input.at ≡ input.end
-Nexts block input next.Failed block' = input.at ≡ input.end
+abbrev pub Nexts : Input → Result (Option ℕ) Failure → Input → Type 0
+Nexts input (Ok (Some b)) input' = Taken input (b ∷ []) input'
+Nexts input (Ok None) input' = (input.untaken ≡ []) × (input'.untaken ≡ [])
+Nexts input (Err Read) input' = (input.untaken ≡ []) × (input'.untaken ≡ [])
+Nexts input (Err Write) input' = ⊥
 
 abbrev pub Unbroken : List ℕ → Type 0
 Unbroken bytes = Memᴰ newline bytes → ⊥
 
 -- No newline stands among the bytes that are not taken yet, or one does.
-abbrev pub Waits : List ℕ → Input → Bool → Type 0
-Waits block input true = Unbroken (untaken block input)
-Waits block input false = Memᴰ newline (untaken block input)
+abbrev pub Waits : Input → Bool → Type 0
+Waits input true = Unbroken input.untaken
+Waits input false = Memᴰ newline input.untaken
 
 -- The bytes up to the next newline, which is taken too.
-abbrev pub ToNewline : List ℕ → Input → List ℕ → List ℕ → Input → Type 0
-ToNewline block input bytes block' input' = Unbroken bytes × Taken block input (bytes ++ (newline ∷ [])) block' input'
+abbrev pub ToNewline : Input → List ℕ → Input → Type 0
+ToNewline input bytes input' = Unbroken bytes × Taken input (bytes ++ (newline ∷ [])) input'
 
 -- All bytes that are untaken or come, up to the end of the input.
-abbrev pub ToEnd : List ℕ → Input → List ℕ → List ℕ → Input → Type 0
-ToEnd block input bytes block' input' =
-    Unbroken bytes × ((came : List ℕ) × (untaken block input ++ came ≡ bytes)) × (untaken block' input' ≡ [])
+abbrev pub ToEnd : Input → List ℕ → Input → Type 0
+ToEnd input bytes input' = Unbroken bytes × ((came : List ℕ) × (input.untaken ++ came ≡ bytes)) × (input'.untaken ≡ [])
 
 -- The bytes of the next line. 01: "A last line without newline counts if it has a byte".
-abbrev pub Comes : List ℕ → Input → List ℕ → List ℕ → Input → Type 0
-Comes block input bytes block' input' = ToNewline block input bytes block' input' ⊎ ((0 < length bytes) × ToEnd block input bytes block' input')
+abbrev pub Comes : Input → List ℕ → Input → Type 0
+Comes input bytes input' = ToNewline input bytes input' ⊎ ((0 < length bytes) × ToEnd input bytes input')
 
 -- A line as it is stored in the column, where `Over` is said of one that fills it. A read fails only where no newline is left in the block.
-abbrev pub Holds : (Input → Type 0) → List ℕ → Input → Line → List ℕ → List ℕ → Type 0
-Holds Over block input None block' column = untaken block input ≡ []
-Holds Over block input (Ended n input') block' column = (n < length column) × Inside input' block' × Comes block input (take n column) block' input'
-Holds Over block input (Full input') block' column = Inside input' block' × Over input'
-Holds Over block input Failed block' column = Unbroken (untaken block input)
+abbrev pub Holds : (Input → Type 0) → Input → Result (Option Line) Failure → Input → List ℕ → Type 0
+Holds Over input (Ok None) input' column = input.untaken ≡ []
+Holds Over input (Ok (Some (Ended n))) input' column = (n < length column) × Comes input (take n column) input'
+Holds Over input (Ok (Some Full)) input' column = Over input'
+Holds Over input (Err Read) input' column = Unbroken input.untaken
+Holds Over input (Err Write) input' column = ⊥
 
 -- The answer where the input ends after n bytes of a line.
-abbrev pub last : ℕ → Input → Line
-last n input = cond (eqb n 0) None (Ended n input)
+abbrev pub last : ℕ → Option Line
+last n = cond (eqb n 0) None (Some (Ended n))
 
-pub record Stores (Over : Input → Type 0) (block : List ℕ) (input : Input) (line : Line) (block' column : List ℕ) : Type 0 where
-  pub holds : Holds Over block input line block' column
+pub record Stores (Over : Input → Type 0) (input : Input) (line : Result (Option Line) Failure) (input' : Input) (column : List ℕ) : Type 0 where
+  pub holds : Holds Over input line input' column
 
 -- What `take_line` owes: of a line that fills the column no newline has come yet.
-abbrev pub Took : List ℕ → Input → Line → List ℕ → List ℕ → Type 0
-Took block input line block' column = Stores (λ input'. Unbroken column × Taken block input column block' input') block input line block' column
+abbrev pub Took : Input → Result (Option Line) Failure → Input → List ℕ → Type 0
+Took input line input' column = Stores (λ after. Unbroken column × Taken input column after) input line input' column
 
 -- What `next_line` owes: of a line that fills the column more may have come, up to its end.
-abbrev pub TookWhole : List ℕ → Input → Line → List ℕ → List ℕ → Type 0
-TookWhole block input line block' column =
-    Stores (λ input'. (more : List ℕ) × Comes block input (column ++ more) block' input') block input line block' column
+abbrev pub TookWhole : Input → Result (Option Line) Failure → Input → List ℕ → Type 0
+TookWhole input line input' column = Stores (λ after. (more : List ℕ) × Comes input (column ++ more) after) input line input' column
 
 -- The bytes of a line as it was taken. One that filled the column has more.
-abbrev pub line_bytes : Line → List ℕ → List ℕ
+abbrev pub line_bytes : Option Line → List ℕ → List ℕ
 line_bytes None column = []
-line_bytes (Ended n input) column = take n column
-line_bytes (Full input) column = column
-line_bytes Failed column = []
+line_bytes (Some (Ended n)) column = take n column
+line_bytes (Some Full) column = column
 
 -- A column of one byte more than a line may have: a line that ended is no longer than that, and one that fills the column is.
-abbrev pub Within : ℕ → Line → Type 0
+abbrev pub Within : ℕ → Option Line → Type 0
 Within most None = Unit {0}
-Within most (Ended n input) = n ≤ most
-Within most (Full input) = Unit {0}
-Within most Failed = Unit {0}
+Within most (Some (Ended n)) = n ≤ most
+Within most (Some Full) = Unit {0}
 
-pub record Whole (most : ℕ) (line : Line) (column : List ℕ) : Type 0 where
+pub record Whole (most : ℕ) (line : Option Line) (column : List ℕ) : Type 0 where
   pub room : length column ≡ most + 1
   pub within : Within most line
 
 -- The rest of a line is passed over, with its newline. A read fails only where no newline is left in the block.
-abbrev pub Passes : List ℕ → Input → Passed → List ℕ → Type 0
-Passes block input (rest.To input') block' =
-    Inside input' block' × ((bytes : List ℕ) × (ToNewline block input bytes block' input' ⊎ ToEnd block input bytes block' input'))
-Passes block input rest.Failed block' = Unbroken (untaken block input)
+abbrev pub Passes : Input → Result Unit Failure → Input → Type 0
+Passes input (Ok _) input' = (bytes : List ℕ) × (ToNewline input bytes input' ⊎ ToEnd input bytes input')
+Passes input (Err Read) input' = Unbroken input.untaken
+Passes input (Err Write) input' = ⊥

@@ -1,33 +1,34 @@
 -- What a turn takes, and what it leaves of the answers before it.
-use Rattle.std.specs.Prelude.{ℕ, ◌+◌, ◌≤◌, ◌<◌, ◌≡◌, ◌⊎◌}
+use Rattle.std.specs.Prelude.{ℕ, ◌+◌, ◌≤◌, ◌<◌, ◌≡◌, ◌⊎◌, length, Option, Result, Ok, Err}
 use mathlib.Core.List.{List, [], ◌∷◌, ◌++◌, Memᴰ}
 use Rattle.theory.specs.Lines.{newline}
-use Rattle.lines.specs.declared.input.Input.{Input}
-use Rattle.lines.specs.declared.turn.Asked.{Asked}
-use Rattle.lines.specs.declared.turn.Asked.TheVariants.{Line, WriteFailed}
-use Rattle.lines.specs.Input.{untaken, Unbroken, Comes, TookWhole}
+use Rattle.lines.specs.declared.failure.Failure.{Failure}
+use Rattle.lines.specs.declared.failure.Failure.TheVariants.{Read, Write}
+use Rattle.lines.specs.declared.input.Line.{Line}
+use Rattle.lines.specs.Input.{Input, Unbroken, Comes, TookWhole}
 use Rattle.lines.specs.Output.{line_room}
 
--- Of a block of `size` bytes so many are used still: none where the next line needs a read or might not fit, and else all that were.
-pub record Left (taken : List ℕ) (input : Input) (size used left : ℕ) : Type 0 where
-  pub shown : Unbroken (untaken taken input) → left ≡ 0
-  pub full : size < used + line_room → left ≡ 0
-  pub stays : Memᴰ newline (untaken taken input) → used + line_room ≤ size → left ≡ used
-  pub whole : (left ≡ used) ⊎ (left ≡ 0)
-  pub room : left + line_room ≤ size
+-- Of what is held in a room of `size` bytes so much is left: nothing where the next line needs a read or might not fit, and else all of it.
+pub record Left (input : Input) (size : ℕ) (held left : List ℕ) : Type 0 where
+  pub shown : Unbroken input.untaken → left ≡ []
+  pub full : size < length held + line_room → left ≡ []
+  pub stays : Memᴰ newline input.untaken → length held + line_room ≤ size → left ≡ held
+  pub whole : (left ≡ held) ⊎ (left ≡ [])
+  pub room : length left + line_room ≤ size
 
 -- A write is due: the next line needs a read, or it might not fit.
-pub data Due (taken : List ℕ) (input : Input) (size used : ℕ) : Type 0 where
-  before_a_read : Unbroken (untaken taken input) → Due taken input size used
-  for_room : size < used + line_room → Due taken input size used
+pub data Due (input : Input) (size : ℕ) (held : List ℕ) : Type 0 where
+  before_a_read : Unbroken input.untaken → Due input size held
+  for_room : size < length held + line_room → Due input size held
 
 -- What `ask` owes. A write fails only where one is due, and then no line is taken.
-abbrev pub Asks : List ℕ → Input → (size used : ℕ) → Asked → List ℕ → List ℕ → Type 0
-Asks taken input size used (Line line left) taken' column = Left taken input size used left × TookWhole taken input line taken' column
-Asks taken input size used WriteFailed taken' column = Due taken input size used × (taken' ≡ taken)
+abbrev pub Asks : Input → (size : ℕ) → List ℕ → Result (Option Line) Failure → Input → List ℕ → List ℕ → Type 0
+Asks input size held (Ok line) input' column left = Left input size held left × TookWhole input (Ok line) input' column
+Asks input size held (Err Read) input' column left = Left input size held left × TookWhole input (Err Read) input' column
+Asks input size held (Err Write) input' column left = Due input size held × (input' ≡ input) × (left ≡ held)
 
 -- The lines that were taken one after the other, from one place of the input to another.
-pub data Lines (taken : List ℕ) (input : Input) : List (List ℕ) → List ℕ → Input → Type 0 where
-  no_line : Lines taken input [] taken input
-  one_more : {texts : List (List ℕ)} {between : List ℕ} {input₁ : Input} {text after : List ℕ} {input₂ : Input} → Lines taken input texts between input₁
-      → Comes between input₁ text after input₂ → Lines taken input (texts ++ text ∷ []) after input₂
+pub data Lines (input : Input) : List (List ℕ) → Input → Type 0 where
+  no_line : Lines input [] input
+  one_more : {texts : List (List ℕ)} {between : Input} {text : List ℕ} {after : Input} → Lines input texts between → Comes between text after
+      → Lines input (texts ++ text ∷ []) after

@@ -1,193 +1,150 @@
 // Lines of standard input. 01: they end at a newline; "A last line without newline counts if it has a byte".
 
-ghost use Rattle.std.specs.Prelude.{◌<◌, ◌≡◌, length};
-ghost use Rattle.lines.specs.Input.{Inside, Fills, Nexts, Waits, last, Took, TookWhole, Within, line_bytes, Passes};
+ghost use Rattle.std.specs.Prelude.{◌<◌, ◌≡◌, Some, length};
+ghost use Rattle.lines.specs.Input.{Starts, Fills, Nexts, Waits, last, Took, TookWhole, Within, line_bytes, Passes};
 
+use crate::failure::Failure;
 use std::io::Read;
+use std::marker::Model;
 
-// The bytes of the lent block from `at` to `end` are read and not yet taken. A block of one byte takes nothing after a newline.
-#[derive(Clone, Copy)]
-pub struct Input {
-    pub at: usize,
-    pub end: usize,
-}
-
+// The bytes of the block from `at` to `end` are read and not yet taken. A block of one byte takes nothing after a newline.
 #[derive(Drop)]
-enum Next {
-    Byte { byte: u8, input: Input },
-    End,
-    Failed,
+pub struct Input<R, const SIZE: usize> {
+    source: R,
+    block: [u8; SIZE],
+    at: usize,
+    end: usize,
 }
 
+impl<R, const SIZE: usize> Model for Input<R, SIZE> {
+    ghost use Rattle.std.specs.Prelude.{◌≤◌};
+    ghost use Rattle.lines.specs.Input.{Input as Held, input_of};
+
+    ghost Value = { Held };
+
+    ghost view = { λ i. input_of i.block i.at i.end };
+
+    ghost invariant = { λ i. (i.at ≤ i.end) × (i.end ≤ SIZE) };
+}
+
+// A line, as far as a column holds it.
 #[derive(Clone, Copy)]
 pub enum Line {
-    None,
-    Ended { length: usize, input: Input },
+    Ended { length: usize },
     // The column is full and no newline has come yet.
-    Full { input: Input },
-    Failed,
+    Full,
 }
 
-#[derive(Drop)]
-enum Passed {
-    To { input: Input },
-    Failed,
-}
-
-impl Input {
-    pub fn start() -> Input
-        ensures { result ≡ record { at = 0; end = 0 } }
+impl<R: Read, const SIZE: usize> Input<R, SIZE> {
+    pub fn new(source: R) -> Self
+        ensures { Starts result }
     {
-        Input { at: 0, end: 0 }
+        Input {
+            source,
+            block: [0; SIZE],
+            at: 0,
+            end: 0,
+        }
     }
-}
 
-#[derive(Drop)]
-enum Filled {
-    To { end: usize },
-    End,
-    Failed,
+    // Whether the next line needs a read: no newline stands among the bytes that are not taken yet.
+    pub fn waits(&self) -> bool
+        ensures { Waits self.now result }
+    {
+        let block = &self.block[..];
+        !block[self.at..self.end].contains(&b'\n')
+    }
+
+    fn take_byte(&mut self) -> Result<Option<u8>, Failure>
+        ensures { Nexts self.old result self.new }
+    {
+        if self.at == self.end {
+            let Some(end) = fill(&mut self.source, &mut self.block)? else {
+                return Ok(None);
+            };
+            self.at = 0;
+            self.end = end;
+        }
+        let byte = self.block[self.at];
+        self.at += 1;
+        Ok(Some(byte))
+    }
+
+    // The next line, as far as the column holds it; its newline is taken and not stored.
+    pub fn take_line(&mut self, column: &mut [u8]) -> Result<Option<Line>, Failure>
+        ensures { Took self.old result self.new column.new }
+    {
+        for length in 0..column.len() {
+            let Some(byte) = self.take_byte()? else {
+                return Ok(last_line(length));
+            };
+            if byte == b'\n' {
+                return Ok(Some(Line::Ended { length }));
+            }
+            column[length] = byte;
+        }
+        Ok(Some(Line::Full))
+    }
+
+    // After the rest of a line. A proved loop has to end, and nothing says that a line does: the turns are more than a run has.
+    fn rest(&mut self) -> Result<(), Failure>
+        ensures { Passes self.old result self.new }
+    {
+        // So no more bytes are untaken than the block has.
+        let _ = &self.end;
+        for _ in 0..u64::MAX {
+            let Some(byte) = self.take_byte()? else {
+                return Ok(());
+            };
+            if byte == b'\n' {
+                return Ok(());
+            }
+        }
+        Err(Failure::Read)
+    }
+
+    // The next line to its end: of one that fills the column the rest is passed over.
+    pub fn next_line(&mut self, column: &mut [u8]) -> Result<Option<Line>, Failure>
+        requires { 0 < length column.old }
+        ensures { TookWhole self.old result self.new column.new }
+    {
+        let line = self.take_line(column)?;
+        if let Some(Line::Full) = line {
+            self.rest()?;
+        }
+        Ok(line)
+    }
 }
 
 // Whatever a program takes comes by this one call. What it brings is the source's to say.
-fn fill<R: Read>(source: &mut R, block: &mut [u8]) -> Filled
+fn fill<R: Read>(source: &mut R, block: &mut [u8]) -> Result<Option<usize>, Failure>
     ensures { Fills result block.new }
 {
-    let Ok(end) = source.read(block) else {
-        return Filled::Failed;
-    };
-    if end == 0 {
-        return Filled::End;
+    match source.read(block) {
+        Ok(0) => Ok(None),
+        Ok(end) => Ok(Some(end)),
+        Err(_) => Err(Failure::Read),
     }
-    Filled::To { end }
-}
-
-fn take_byte<R: Read>(source: &mut R, block: &mut [u8], input: Input) -> Next
-    requires { Inside input block.old }
-    ensures { Nexts block.old input result block.new }
-{
-    let at = input.at;
-    if at < input.end {
-        return Next::Byte {
-            byte: block[at],
-            input: Input {
-                at: at + 1,
-                end: input.end,
-            },
-        };
-    }
-    match fill(source, block) {
-        Filled::End => Next::End,
-        Filled::Failed => Next::Failed,
-        Filled::To { end } => Next::Byte {
-            byte: block[0],
-            input: Input { at: 1, end },
-        },
-    }
-}
-
-// Whether the next line needs a read: no newline stands among the bytes that are not taken yet.
-pub fn waits(block: &[u8], input: Input) -> bool
-    requires { Inside input block.now }
-    ensures { Waits block.now input result }
-{
-    let mut at = input.at;
-    let end = input.end;
-    while at < end {
-        if block[at] == b'\n' {
-            return false;
-        }
-        at += 1;
-    }
-    true
-}
-
-// The next line, as far as the column holds it; its newline is taken and not stored.
-pub fn take_line<R: Read>(source: &mut R, block: &mut [u8], input: Input, column: &mut [u8]) -> Line
-    requires { Inside input block.old }
-    ensures { Took block.old input result block.new column.new }
-{
-    let mut input = input;
-    let mut length = 0;
-    while length < column.len() {
-        match take_byte(source, block, input) {
-            Next::Failed => return Line::Failed,
-            Next::End => return last_line(length, input),
-            Next::Byte { byte, input: after } => {
-                input = after;
-                if byte == b'\n' {
-                    return Line::Ended { length, input };
-                }
-                column[length] = byte;
-                length += 1;
-            }
-        }
-    }
-    Line::Full { input }
 }
 
 // 01: "A last line without newline counts if it has a byte".
-fn last_line(length: usize, input: Input) -> Line
-    ensures { result ≡ last length input }
+fn last_line(length: usize) -> Option<Line>
+    ensures { result ≡ last length }
 {
     if length == 0 {
-        return Line::None;
+        return None;
     }
-    Line::Ended { length, input }
+    Some(Line::Ended { length })
 }
 
 // The bytes of a line, as far as they were taken.
-pub fn bytes(line: Line, column: &[u8]) -> &[u8]
+pub fn bytes(line: Option<Line>, column: &[u8]) -> &[u8]
     requires { Within (length column.now) line }
     ensures { result.now ≡ line_bytes line column.now }
 {
     match line {
-        Line::None => &column[..0],
-        Line::Ended { length, input: _ } => &column[..length],
-        Line::Full { input: _ } => column,
-        Line::Failed => &column[..0],
-    }
-}
-
-// After the rest of a line. A proved loop has to end, and nothing says that a line does: the turns are more than a run has.
-fn rest<R: Read>(source: &mut R, block: &mut [u8], input: Input) -> Passed
-    requires { Inside input block.old }
-    ensures { Passes block.old input result block.new }
-{
-    let mut input = input;
-    let mut turns = u64::MAX;
-    while turns > 0 {
-        match take_byte(source, block, input) {
-            Next::Failed => return Passed::Failed,
-            Next::End => return Passed::To { input },
-            Next::Byte { byte, input: after } => {
-                input = after;
-                if byte == b'\n' {
-                    return Passed::To { input };
-                }
-                turns -= 1;
-            }
-        }
-    }
-    Passed::Failed
-}
-
-// The next line to its end: of one that fills the column the rest is passed over.
-pub fn next_line<R: Read>(source: &mut R, block: &mut [u8], input: Input, column: &mut [u8]) -> Line
-    requires { Inside input block.old × (0 < length column.old) }
-    ensures { TookWhole block.old input result block.new column.new }
-{
-    let line = take_line(source, block, input, column);
-    match line {
-        Line::None => line,
-        Line::Ended {
-            length: _,
-            input: _,
-        } => line,
-        Line::Failed => line,
-        Line::Full { input: so_far } => match rest(source, block, so_far) {
-            Passed::To { input: after } => Line::Full { input: after },
-            Passed::Failed => Line::Failed,
-        },
+        None => &column[..0],
+        Some(Line::Ended { length }) => &column[..length],
+        Some(Line::Full) => column,
     }
 }

@@ -1,7 +1,8 @@
-// Lines from standard input and lines to standard output, by way of blocks that the caller lends.
+// Lines from standard input, by way of a block that holds what was read, and lines to standard output, by way of one that holds what will be written.
 
 #![tactic(auto)]
 
+pub mod failure;
 pub mod input;
 pub mod output;
 pub mod turn;

@@ -1,9 +1,13 @@
-// Text put together in a lent block, and written out.
+// What a program says, put together in a block, and written out.
 
-ghost use Rattle.std.specs.Prelude.{◌≡◌, ◌+◌, ◌*◌, ◌≤◌, length};
-ghost use Rattle.theory.specs.Refusal.{refusal};
+ghost use Rattle.std.specs.Prelude.{◌≡◌, ◌+◌, ◌*◌, ◌≤◌, [], ◌++◌, length};
 ghost use Rattle.theory.specs.Lines.{number_and, row, refusal_line};
-ghost use Rattle.lines.specs.Output.{Put, number_room, line_room, Wrote, Roomy};
+ghost use Rattle.theory.specs.Stated.{stated};
+ghost use Rattle.lines.specs.Output.{number_room, line_room, Wrote, WroteOut, Roomy};
+
+use crate::failure::Failure;
+use std::marker::Model;
+use theory::refusal::Refusal;
 
 // No line of the records program and of the room report, and no refusal, is longer.
 pub const LINE: usize = 128;
@@ -11,119 +15,110 @@ pub const LINE: usize = 128;
 // The streams by their numbers.
 const STDOUT: i32 = 1;
 
-const STDERR: i32 = 2;
+pub(crate) const STDERR: i32 = 2;
 
-// Bytes after the used ones.
-pub fn word(block: &mut [u8], used: usize, bytes: &[u8]) -> usize
-    requires { used + length bytes.now ≤ length block.old }
-    ensures { Put bytes.now block.old used block.new result }
-{
-    let mut i = 0;
-    while i < bytes.len() {
-        block[used + i] = bytes[i];
-        i += 1;
-    }
-    used + i
-}
-
-// A number in decimal and one byte, after the used ones.
-pub fn number(block: &mut [u8], used: usize, n: usize, after: u8) -> usize
-    requires { used + length (number_and n after) ≤ length block.old }
-    ensures { Put (number_and n after) block.old used block.new result }
-{
-    // 64 bits have at most 20 digits.
-    let mut digits = [0u8; 20];
-    let k = io::decimal(n as u64, &mut digits);
-    let at = word(block, used, &digits[..k]);
-    block[at] = after;
-    at + 1
-}
-
-// Numbers on a line, single-spaced, after the used bytes.
-#[tactic(auto, using(crate::proofs::Putting::number_short))]
-pub fn row(block: &mut [u8], used: usize, numbers: &[u64], last: u64) -> usize
-    requires { used + (length numbers.now + 1) * number_room ≤ length block.old }
-    ensures put { Put (row numbers.now last) block.old used block.new result }
-    ensures upper_bound { result ≤ used + (length numbers.now + 1) * number_room }
-{
-    let mut at = used;
-    let mut i = 0;
-    while i < numbers.len() {
-        at = number(block, at, numbers[i] as usize, b' ');
-        i += 1;
-    }
-    number(block, at, last as usize, b'\n')
-}
-
-// 01: "Both print `refused R P` (number, place) on a refusal".
-#[tactic(auto, using(crate::proofs::Putting::number_short))]
-pub fn refused(block: &mut [u8], used: usize, number: u8, place: usize) -> usize
-    requires { used + line_room ≤ length block.old }
-    ensures put { Put (refusal_line (refusal number place)) block.old used block.new result }
-    ensures upper_bound { result ≤ used + line_room }
-{
-    let said = word(block, used, b"refused ");
-    let numbered = self::number(block, said, number as usize, b' ');
-    self::number(block, numbered, place, b'\n')
-}
-
+// The used bytes of the block are held: they are to be written out.
 #[derive(Drop)]
-pub enum Written {
-    All { count: usize },
-    Failed,
+pub struct Output<const ROOM: usize> {
+    block: [u8; ROOM],
+    used: usize,
+}
+
+impl<const ROOM: usize> Model for Output<ROOM> {
+    ghost use Rattle.std.specs.Prelude.{ℕ, List, ◌≤◌, take};
+
+    ghost Value = { List ℕ };
+
+    ghost view = { λ o. take o.used o.block };
+
+    ghost invariant = { λ o. o.used ≤ ROOM };
+}
+
+impl<const ROOM: usize> Output<ROOM> {
+    pub fn new() -> Self
+        ensures { result ≡ [] }
+    {
+        Output {
+            block: [0; ROOM],
+            used: 0,
+        }
+    }
+
+    pub fn word(&mut self, bytes: &[u8])
+        requires { length self.old + length bytes.now ≤ ROOM }
+        ensures { self.new ≡ self.old ++ bytes.now }
+    {
+        let end = self.used + bytes.len();
+        let block = &mut self.block[..];
+        block[self.used..end].copy_from_slice(bytes);
+        self.used = end;
+    }
+
+    // A number in decimal and one byte.
+    #[tactic(auto, using(crate::proofs::Putting::number_text, crate::proofs::Putting::number_put))]
+    pub fn number(&mut self, n: usize, after: u8)
+        requires { length self.old + length (number_and n after) ≤ ROOM }
+        ensures { self.new ≡ self.old ++ number_and n after }
+    {
+        // 64 bits have at most 20 digits.
+        let mut digits = [0u8; 20];
+        let count = io::decimal(n as u64, &mut digits);
+        self.word(&digits[..count]);
+        self.word(&[after]);
+    }
+
+    // Numbers on a line, single-spaced.
+    pub fn row(&mut self, numbers: &[u64], last: u64)
+        requires { length self.old + (length numbers.now + 1) * number_room ≤ ROOM }
+        ensures put { self.new ≡ self.old ++ row numbers.now last }
+        ensures upper_bound { length self.new ≤ length self.old + (length numbers.now + 1) * number_room }
+    {
+        for number in numbers {
+            self.number(*number as usize, b' ');
+        }
+        self.number(last as usize, b'\n');
+    }
+
+    // 01: "Both print `refused R P` (number, place) on a refusal".
+    pub fn refused(&mut self, refusal: Refusal)
+        requires { length self.old + line_room ≤ ROOM }
+        ensures put { self.new ≡ self.old ++ refusal_line (stated refusal) }
+        ensures upper_bound { length self.new ≤ length self.old + line_room }
+    {
+        self.word(b"refused ");
+        self.number(refusal.cause.number() as usize, b' ');
+        self.number(refusal.place, b'\n');
+    }
+
+    // What a program answers goes out whole. How many bytes that were.
+    pub fn write_out(&mut self) -> Result<usize, Failure>
+        ensures { WroteOut self.old result self.new }
+    {
+        let count = hand_over(STDOUT, &self.block[..self.used])?;
+        self.used = 0;
+        Ok(count)
+    }
+
+    // Writes out what is held where a line might not fit after it, or where the caller would wait.
+    pub fn make_room(&mut self, waits: bool) -> Result<usize, Failure>
+        requires { line_room ≤ ROOM }
+        ensures { Roomy ROOM self.old waits result self.new }
+    {
+        if waits || ROOM - self.used < LINE {
+            self.write_out()
+        } else {
+            Ok(0)
+        }
+    }
 }
 
 // Whatever a program says goes out by this one call.
-fn hand_over(stream: i32, bytes: &[u8]) -> Written
+pub(crate) fn hand_over(stream: i32, bytes: &[u8]) -> Result<usize, Failure>
     ensures { Wrote (length bytes.now) result }
 {
     if io::write_all(stream, bytes) {
-        Written::All { count: bytes.len() }
+        Ok(bytes.len())
     } else {
-        Written::Failed
+        Err(Failure::Write)
     }
-}
-
-// What a program answers.
-pub fn write(bytes: &[u8]) -> Written
-    ensures { Wrote (length bytes.now) result }
-{
-    hand_over(STDOUT, bytes)
-}
-
-#[derive(Drop)]
-pub enum Room {
-    For { used: usize, written: usize },
-    Failed,
-}
-
-// Writes the block out where a line might not fit after what it holds, or where the caller would wait. How much of it is used then.
-pub fn with_room(block: &[u8], used: usize, waits: bool) -> Room
-    requires { (used ≤ length block.now) × (line_room ≤ length block.now) }
-    ensures { Roomy (length block.now) used waits result }
-{
-    if waits | (block.len() - used < LINE) {
-        match write(&block[..used]) {
-            Written::All { count } => Room::For {
-                used: 0,
-                written: count,
-            },
-            Written::Failed => Room::Failed,
-        }
-    } else {
-        Room::For { used, written: 0 }
-    }
-}
-
-// The programs set no exit status: a read or a write that fails is told on standard error.
-pub fn tell_read_failed() -> Written
-    ensures { Wrote 29 result }
-{
-    hand_over(STDERR, b"gumpaleri 0.4.0: read failed\n")
-}
-
-pub fn tell_write_failed() -> Written
-    ensures { Wrote 30 result }
-{
-    hand_over(STDERR, b"gumpaleri 0.4.0: write failed\n")
 }

@@ -15,13 +15,12 @@ use Rattle.theory.specs.Judge.{given}
 use Rattle.theory.proofs.Below.{some_cong, count_cong, count_longer}
 use Rattle.theory.proofs.Reached.{after_below, start_below}
 use Rattle.theory.proofs.Verdicts.{live_dead, verdict_wrong, verdict_whole}
+use Rattle.std.specs.Prelude.{Option, Some, None}
 use Rattle.sets.specs.Bits.{bit}
 use Rattle.matcher.specs.Moves.{place_of, Checked, Ended}
-use Rattle.matcher.specs.declared.moves.Walked.{Walked}
-use Rattle.matcher.specs.declared.moves.Walked.TheVariants.{Whole, Dead}
 
-module _ (h : Handed) {k : Work} (c : Checked h.states h.arcs k) {w : Word} {r : Walked} {current : List ℕ} (e : Ended h.arcs w r current) where
-  pub answered_wrong : {p : ℕ} → r ≡ Dead p → given (wrong p) 0 ≡ given (verdict h w) (live h w)
+module _ (h : Handed) {k : Work} (c : Checked h.states h.arcs k) {w : Word} {died : Option ℕ} {current : List ℕ} (e : Ended h.arcs w died current) where
+  pub answered_wrong : {p : ℕ} → died ≡ Some p → given (wrong p) 0 ≡ given (verdict h w) (live h w)
   answered_wrong {p} d =
       let dead : dead_at h.arcs start 0 w ≡ some p = sym e.place ∙ ap place_of d in
       ap₂ given (sym (verdict_wrong h w p dead)) (sym (live_dead h p w dead))
@@ -30,7 +29,7 @@ module _ (h : Handed) {k : Work} (c : Checked h.states h.arcs k) {w : Word} {r :
   unfolding reached
   none_far = after_below h.arcs c.to_below start (start_below h.states c.some_state) w
 
-  pub answered_whole : {any : Bool} {n : ℕ} → r ≡ Whole
+  pub answered_whole : {any : Bool} {n : ℕ} → died ≡ None
       → any ≡ some_below h.states (λ t. bit current t && eqb (get_or h.accepting t 0) 1)
       → n ≡ count_below (words h.states * 64) (bit current)
       → given (cond any accepted unfinished) n ≡ given (verdict h w) (live h w)

@@ -1,18 +1,22 @@
 -- From the refusal, or from the walk's answer, to the judgement; and what a walk starts from where nothing is refused.
-use Prim.Native.Nat.{ℕ}
+use Prim.Native.Nat.{ℕ, ◌≤◌}
 use native.Mathlib.Omega.{arith}
-use mathlib.Core.Path.{◌≡◌, sym, ap, ap₂, ◌∙◌}
+use Rattle.std.proofs.Common.{rules}
+use mathlib.Core.Path.{◌≡◌, sym, ap, ◌∙◌}
 use mathlib.Core.Bool.{Bool, ◌||◌}
 use mathlib.Core.List.{List}
 use lib.ListN.{length}
 use lib.Dec.{eqb}
 use Rattle.theory.specs.Language.{Word}
-use Rattle.theory.specs.Refusal.{refusal}
+use Rattle.theory.specs.Refusal.{Refusal, success}
+use Rattle.theory.specs.Stated.{number, stated}
+use Rattle.theory.specs.declared.refusal.Cause.{Cause}
+use Rattle.theory.specs.declared.refusal.Refusal.{Refusal as CodeRefusal}
 use Rattle.theory.specs.Arcs.{start}
 use Rattle.theory.specs.Record.{Handed, Work, work, cleared, WellFormedAutomaton, verdict, live, matcher_refusal}
 use Rattle.theory.specs.Judge.{Judgement, given, withheld, judgement}
 use Rattle.theory.proofs.Answers.{judgement_given, judgement_refused}
-use Rattle.theory.proofs.MatcherRefusal.{place_zero, not_refused}
+use Rattle.theory.proofs.MatcherRefusal.{not_refused}
 use Rattle.sets.specs.Bits.{bit}
 use Rattle.sets.proofs.Digits.{none_set}
 use Rattle.matcher.specs.Moves.{Checked, Ready}
@@ -30,13 +34,16 @@ ready k z e = record {
 
 -- ---- The automaton
 
-module _ (h : Handed) (k : Work) (z : (matcher_refusal h k).number ≡ 0) where
+module _ (h : Handed) (k : Work) (none : success ≡ matcher_refusal h k) where
+  zero : (matcher_refusal h k).number ≡ 0
+  zero = sym (ap (λ (r : Refusal). r.number) none)
+
   pub formed : WellFormedAutomaton h
-  formed = (not_refused h k z).1
+  formed = (not_refused h k zero).1
 
   pub checked : Checked h.states h.arcs k
   checked =
-      let (even, good, enough) = not_refused h k z in
+      let (even, good, enough) = not_refused h k zero in
       let long = good.arcs_long in
       record {
         some_state = good.some_state;
@@ -49,9 +56,16 @@ module _ (h : Handed) (k : Work) (z : (matcher_refusal h k).number ≡ 0) where
 
 -- ---- The judgement
 
-module _ (h : Handed) (k : Work) (w : Word) {number : ℕ} (e : number ≡ (matcher_refusal h k).number) where
-  pub judged_refused : (number ≡ 0 → ⊥) → withheld (refusal number 0) ≡ judgement h k w
-  judged_refused ne = ap withheld (ap₂ refusal e (sym (place_zero h k))) ∙ sym (judgement_refused h k w (λ q. ne (e ∙ q)))
+-- A cause's number is not that of success.
+number_some : (cause : Cause) → 1 ≤ number cause
+number_some cause = search rules
 
-  pub judged_given : number ≡ 0 → {answer : Judgement} → answer ≡ given (verdict h w) (live h w) → answer ≡ judgement h k w
-  judged_given z a = a ∙ sym (judgement_given h k w (sym e ∙ z))
+module _ (h : Handed) (k : Work) (w : Word) where
+  pub judged_refused : (r : CodeRefusal) → stated r ≡ matcher_refusal h k → withheld (stated r) ≡ judgement h k w
+  judged_refused r e =
+      ap withheld e
+      ∙ sym (judgement_refused h k w
+      (λ q. let some = number_some r.cause in let same = ap (λ (s : Refusal). s.number) e in absurd (omega arith)))
+
+  pub judged_given : success ≡ matcher_refusal h k → {answer : Judgement} → answer ≡ given (verdict h w) (live h w) → answer ≡ judgement h k w
+  judged_given none a = a ∙ sym (judgement_given h k w (sym (ap (λ (r : Refusal). r.number) none)))

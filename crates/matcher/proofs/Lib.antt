@@ -1,3 +1,4 @@
+pub mod Checking
 pub mod Spread
 pub mod Walk
 pub mod Answered

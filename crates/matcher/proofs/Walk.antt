@@ -11,36 +11,28 @@ use borrow.Author.Tests.{ltb-false}
 use Rattle.theory.specs.Language.{Word}
 use Rattle.theory.specs.Below.{some_below}
 use Rattle.theory.specs.Arcs.{Arcs, States, start, moved, after, reached, leads_on, dead_at}
-use Rattle.theory.specs.Column.{zeros}
-use Rattle.theory.specs.Record.{Work, work, cleared, words}
+use Rattle.theory.specs.Record.{Work, words, LongEnough}
 use Rattle.theory.proofs.Below.{some_cong}
 use Rattle.theory.proofs.Reached.{moved_cong, moved_below, leads_on_moved, after_take, after_below, start_below, dead_later, dead_here, dead_never}
+use Rattle.std.specs.Prelude.{Some, None}
 use Rattle.sets.specs.Bits.{bit}
 use Rattle.matcher.specs.Moves.{Checked, Ready, Ended}
-use Rattle.matcher.specs.declared.moves.Walked.TheVariants.{Whole, Dead}
 
 -- ---- Work columns of the same lengths
 
-pub record SameWork (k₀ k : Work) : Type 0 where
-  pub current : length k.current ≡ length k₀.current
-  pub next : length k.next ≡ length k₀.next
+module _ (k₀ k : Work) (current : length k.current ≡ length k₀.current) (next : length k.next ≡ length k₀.next) where
+  pub long_enough : {n : ℕ} → LongEnough k₀ n → LongEnough k n
+  long_enough h = record { current = rw current h.current; next = rw next h.next }
 
-pub same_work : {k : Work} → SameWork k k
-same_work = record { current = refl; next = refl }
-
-pub cleared_same : {k₀ k : Work} → SameWork k₀ k → cleared k ≡ cleared k₀
-cleared_same same = λ i. work (zeros (same.current i)) (zeros (same.next i))
-
-module _ {n : ℕ} {a : Arcs} {k₀ k : Work} (h : Checked n a k₀) (same : SameWork k₀ k) where
   -- Only the lengths of the columns are checked.
-  pub checked_kept : Checked n a k
-  checked_kept = record {
+  pub checked_kept : {n : ℕ} {a : Arcs} → Checked n a k₀ → Checked n a k
+  checked_kept h = record {
     some_state = h.some_state;
     few_states = h.few_states;
     spans = h.spans;
     from_below = h.from_below;
     to_below = h.to_below;
-    enough = record { current = rw same.current h.enough.current; next = rw same.next h.enough.next };
+    enough = long_enough h.enough;
   }
 
 -- ---- At a place
@@ -62,7 +54,7 @@ walk_start r = record { set = r.started; clear = r.clear; rest = refl }
 pub walk_at : {a : Arcs} {w : Word} {k : Work} {p q : ℕ} → p ≡ q → Walk a w k p → Walk a w k q
 walk_at {a} {w} {k} e r = subst (Walk a w k) e r
 
-pub walk_whole : {a : Arcs} {w : Word} {k : Work} {p : ℕ} → Walk a w k p → length w ≤ p → Ended a w Whole k.current
+pub walk_whole : {a : Arcs} {w : Word} {k : Work} {p : ℕ} → Walk a w k p → length w ≤ p → Ended a w None k.current
 unfolding reached
 walk_whole {a} {w} {p = p} r l = record {
   place = sym (r.rest ∙ dead_never a (so_far a w p) w p l);
@@ -128,7 +120,7 @@ module _ {a : Arcs} {w : Word} {k k' : Work} {p : ℕ} {any : Bool} (r : Walk a 
             ∙ ap (λ (s : States). dead_at a s (p + 1) (drop (p + 1) w)) (sym step);
       }
 
-  pub walk_dead : any ≡ false → Ended a w (Dead p) k'.current
+  pub walk_dead : any ≡ false → Ended a w (Some p) k'.current
   walk_dead e = record {
     place = sym (r.rest ∙ dead_here a (so_far a w p) w p l (sym m.on ∙ e));
     set = λ q. absurd (let z : ◌≡◌ {A = ℕ} 0 1 = cc in omega arith);

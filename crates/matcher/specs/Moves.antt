@@ -1,14 +1,13 @@
 -- What the functions of `moves` ask of the columns, and what a walk over a record finds.
-use Rattle.std.specs.Prelude.{ℕ, ◌/◌, ◌≤◌, ◌<◌, ◌≡◌, false, List, length, get_or}
-use Rattle.std.proofs.Math.Option.{Option, none, some}
+use Rattle.std.specs.Prelude.{ℕ, ◌/◌, ◌≤◌, ◌<◌, ◌≡◌, false, List, length, get_or, Option, Some, None}
+use Rattle.std.proofs.Math.Option.{none, some}
+use Rattle.std.proofs.Math.Option as paper
 use Rattle.theory.specs.Limit.{most_states}
 use Rattle.theory.specs.Language.{Word}
 use Rattle.theory.specs.Arcs.{Arcs, Spans, start, reached, dead_at}
 use Rattle.theory.specs.Record.{Handed, Work, LongEnough, verdict, live}
 use Rattle.theory.specs.Judge.{Judgement, given}
 use Rattle.sets.specs.Bits.{bit}
-use Rattle.matcher.specs.declared.moves.Walked.{Walked}
-use Rattle.matcher.specs.declared.moves.Walked.TheVariants.{Whole, Dead}
 
 -- The used arcs stand in the columns, and the words hold a bit for each of their ends.
 pub record Inside (a : Arcs) (k : Work) : Type 0 where
@@ -30,18 +29,18 @@ pub record Ready (k : Work) : Type 0 where
   pub started : (t : ℕ) → bit k.current t ≡ start t
   pub clear : (t : ℕ) → bit k.next t ≡ false
 
--- The place of the first byte after which no state is reached.
-abbrev pub place_of : Walked → Option ℕ
-place_of Whole = none
-place_of (Dead p) = some p
+-- The place of the first byte after which no state is reached, where there is one.
+abbrev pub place_of : Option ℕ → paper.Option ℕ
+place_of None = none
+place_of (Some p) = some p
 
 -- A walk ends at the first byte after which no state is reached, or with the states that the whole record reaches.
-pub record Ended (a : Arcs) (w : Word) (r : Walked) (current : List ℕ) : Type 0 where
-  pub place : place_of r ≡ dead_at a start 0 w
-  pub set : r ≡ Whole → (t : ℕ) → bit current t ≡ reached a w t
+pub record Ended (a : Arcs) (w : Word) (died : Option ℕ) (current : List ℕ) : Type 0 where
+  pub place : place_of died ≡ dead_at a start 0 w
+  pub set : died ≡ None → (t : ℕ) → bit current t ≡ reached a w t
 
 -- What a walk's end says, whatever the arcs between these states and the record: the verdict with live.
-abbrev pub Answers : ℕ → List ℕ → Walked → List ℕ → Judgement → Type 0
-Answers states accepting walked current answer =
-    (a : Arcs) (k : Work) → Checked states a k → (w : Word) → Ended a w walked current
+abbrev pub Answers : ℕ → List ℕ → Option ℕ → List ℕ → Judgement → Type 0
+Answers states accepting died current answer =
+    (a : Arcs) (k : Work) → Checked states a k → (w : Word) → Ended a w died current
     → let h : Handed = record { states = states; accepting = accepting; arcs = a } in answer ≡ given (verdict h w) (live h w)

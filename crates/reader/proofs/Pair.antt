@@ -7,21 +7,23 @@ use mathlib.Core.Path.{◌≡◌, refl, sym, ap, subst, ◌∙◌}
 use mathlib.Core.Logic.{◌⊎◌, inl, inr}
 use mathlib.Core.List.{List, [], ◌∷◌, ◌++◌}
 use lib.ListN.{length, get_or, length-append}
-use lib.Dec.{lit≤}
-use Rattle.theory.specs.Kind
-use Rattle.theory.specs.Expression.{Expression, Sign, union, concatenation, shuffle, binary, entries}
+use Rattle.theory.specs.Expression.{Expression, Sign, binary, entries}
 use Rattle.theory.specs.Limit.{most_open}
 use Rattle.theory.specs.Refusal.{refusal, not_grammar, too_deep, too_many_entries}
+use Rattle.theory.specs.Meant.{as_sign, sign_number}
+use Rattle.theory.specs.Stated.{stated}
 use Rattle.theory.specs.Table.{Table, Row, entry, kind_of_sign}
+use Rattle.theory.specs.declared.kind.Sign.{Sign as CodeSign}
+use Rattle.theory.specs.declared.kind.Sign.TheVariants.{Union, Concatenation, Shuffle}
+use Rattle.theory.specs.declared.refusal.Refusal.{Refusal}
+use Rattle.std.specs.Prelude.{Ok, Err}
 use Rattle.theory.specs.Grammar.{Text, refused, rows, byte_open, byte_close, byte_*, makes_entry}
 use Rattle.theory.specs.Scan.{Frame, opened, signed, Stand, before, after, open_at, finish}
 use Rattle.theory.proofs.Grammar.Count.{sign_makes_none}
 use Rattle.theory.proofs.Scan.{at_deep, at_many, at_entry, at_mark, before_opening, after_sign, after_close, after_unsigned, after_unclosed}
 use Rattle.theory.proofs.Rows.Trees.{rows_length, entries_positive}
-use Rattle.columns.specs.declared.Cursor.{Cursor}
-use Rattle.reader.specs.declared.entries.Found.{Found}
-use Rattle.reader.specs.declared.entries.Found.TheVariants.{Value, Refused}
-use Rattle.reader.specs.Found.{laid, SignAt, CloseAt, scan_at, Start, start, MayBegin, After, Answered}
+use Rattle.columns.specs.declared.cursor.Cursor.{Cursor}
+use Rattle.reader.specs.Found.{Found, laid, SignAt, CloseAt, scan_at, Start, start, MayBegin, After, Answered}
 use Rattle.reader.proofs.Laid.{laid_append}
 use Rattle.columns.proofs.ByteAt.{ByteAt}
 use Rattle.reader.proofs.Answers.{stuck_here}
@@ -41,10 +43,11 @@ pub record Inside (room : ℕ) (text : Text) (s : Start) (at : ℕ) : Type 0 whe
 
 module _ {room : ℕ} {text : Text} {s : Start} (b : MayBegin room text s) {byte : ℕ} {cursor : Cursor} (i : ByteAt text s.at byte cursor)
     (o : byte ≡ byte_open) where
-  pub deep_answers : most_open ≤ s.depth → Answered room text s (Refused too_deep s.at) s.columns
+  pub deep_answers : (r : Refusal) → stated r ≡ refusal too_deep s.at → most_open ≤ s.depth → Answered room text s (Err r) s.columns
   unfolding open_at
-  deep_answers d fs e =
-      at_deep room text s.at s.made (before fs) i.inside (before (opened ∷ fs)) (before_opening fs (get_or text s.at 0) (i.here ∙ o)) (omega arith)
+  deep_answers r q d fs e =
+      rw q
+      (at_deep room text s.at s.made (before fs) i.inside (before (opened ∷ fs)) (before_opening fs (get_or text s.at 0) (i.here ∙ o)) (omega arith))
 
   pub inside : s.depth < most_open → Inside room text s cursor.at
   unfolding open_at makes_entry
@@ -82,9 +85,9 @@ pub record Left (room : ℕ) (text : Text) (s : Start) (at made : ℕ) (t : Tabl
   pub unstarred : get_or text at 0 ≡ byte_* → ⊥
 
 module _ {room : ℕ} {text : Text} {s : Start} {at₀ : ℕ} (i : Inside room text s at₀) where
-  pub left_refused : {number place : ℕ} (t : Table) (r : Found) → r ≡ Refused number place
+  pub left_refused : {found : Refusal} (t : Table) (r : Found) → r ≡ Err found
       → Answered room text (within_pair s at₀ s.made s.columns) r t → Answered room text s r t
-  left_refused {number} {place} t r q h =
+  left_refused t r q h =
       subst (λ (r' : Found). Answered room text s r' t) (sym q)
       (λ fs e. i.comes fs e ∙ subst (λ (r' : Found). Answered room text (within_pair s at₀ s.made s.columns) r' t) q h (opened ∷ fs) (omega arith))
 
@@ -107,65 +110,54 @@ module _ {room : ℕ} {text : Text} {s : Start} {at₀ : ℕ} (i : Inside room t
 
 -- ---- The sign
 
-pub record Signed (room : ℕ) (text : Text) (s : Start) (kind at made : ℕ) (t : Table) : Type 0 where
-  pub sign : Sign
-  pub kind_is : kind ≡ kind_of_sign sign
-  pub half : Half room text s (λ x fs. before (signed x sign ∷ fs)) at made t
+-- Where the scan stands after the left expression and its sign.
+abbrev pub signed_with : CodeSign → Expression → List Frame → Stand
+signed_with g x fs = before (signed x (as_sign g) ∷ fs)
 
 module _ {room : ℕ} {text : Text} {s : Start} {at made : ℕ} {t : Table} (x : Left room text s at made t) where
-  pub sign_refused : {number place : ℕ} (t' : Table) (r : Found) → r ≡ Refused number place → SignAt text at r → Answered room text s r t'
+  pub sign_refused : (found : Refusal) (t' : Table) → SignAt text at (Err found) → Answered room text s (Err found) t'
   unfolding finish
-  sign_refused {number} {place} t' r q h =
+  sign_refused found t' h fs e =
       let y = x.half in
-      let k : SignAt text at (Refused number place) = subst (SignAt text at) q h in
-      subst (λ (r' : Found). Answered room text s r' t') (sym q)
-      (λ fs e.
       y.comes fs e
-      ∙ rw (k.0, k.1)
+      ∙ rw h.0
       (stuck_here room text at made (after y.expression (opened ∷ fs)) y.within
-      (λ l. after_unsigned y.expression fs (get_or text at 0) x.unstarred (λ g. k.2 g l)) refl))
+      (λ l. after_unsigned y.expression fs (get_or text at 0) x.unstarred (λ g. h.1 g l)) refl)
 
-  pub signed_on : {kind : ℕ} {cursor : Cursor} → SignAt text at (Value kind cursor) → Signed room text s kind cursor.at made t
+  pub signed_on : (v : CodeSign × Cursor) → SignAt text at (Ok v) → Half room text s (signed_with v.0) v.1.at made t
   unfolding open_at
-  signed_on {kind} {cursor} h =
+  signed_on v h =
       let y = x.half in
       let shallow = y.shallow in
-      let next_at = h.4 in
-      let before_end = h.1 in
+      let next_at = h.2 in
+      let before_end = h.0 in
       let onward = y.onward in
       record {
-        sign = h.0;
-        kind_is = h.3;
-        half = record {
-          expression = y.expression;
-          comes = λ fs e.
-              y.comes fs e
-              ∙ rw next_at
-              (at_mark room text at made (after y.expression (opened ∷ fs)) h.1 (before (signed y.expression h.0 ∷ fs))
-              (after_sign y.expression h.0 fs (get_or text at 0) h.2) (omega arith) (rw h.2 (sign_makes_none h.0)) y.fits);
-          shallow = y.shallow;
-          onward = omega arith;
-          within = omega arith;
-          counted = y.counted;
-          fits = y.fits;
-          laid_out = y.laid_out;
-        };
+        expression = y.expression;
+        comes = λ fs e.
+            y.comes fs e
+            ∙ rw next_at
+            (at_mark room text at made (after y.expression (opened ∷ fs)) h.0 (before (signed y.expression (as_sign v.0) ∷ fs))
+            (after_sign y.expression (as_sign v.0) fs (get_or text at 0) h.1) (omega arith) (rw h.1 (sign_makes_none (as_sign v.0))) y.fits);
+        shallow = y.shallow;
+        onward = omega arith;
+        within = omega arith;
+        counted = y.counted;
+        fits = y.fits;
+        laid_out = y.laid_out;
       }
-
-pub signed_kind : {room : ℕ} {text : Text} {s : Start} {kind at made : ℕ} {t : Table} → Signed room text s kind at made t → kind ≤ Kind.last
-unfolding kind_of_sign
-signed_kind x = rw x.kind_is (small x.sign)
-  where
-    small : (g : Sign) → kind_of_sign g ≤ Kind.last
-    small union = lit≤ tt
-    small concatenation = lit≤ tt
-    small shuffle = lit≤ tt
 
 -- ---- The right expression and `)`
 
 -- The row of a sign over the last rows of its two parts.
 abbrev pub pair_row : (kind first second : ℕ) → Row
 pair_row kind first second = entry kind (first - 1) (second - 1)
+
+kind_is : (g : CodeSign) → sign_number g ≡ kind_of_sign (as_sign g)
+unfolding kind_of_sign
+kind_is Union = refl
+kind_is Concatenation = refl
+kind_is Shuffle = refl
 
 pair_laid : (base : ℕ) (g : Sign) (x y : Expression) (t : Table)
     → laid (base + entries x + entries y) (pair_row (kind_of_sign g) (base + entries x) (base + entries x + entries y) ∷ [])
@@ -181,58 +173,59 @@ pair_laid base g x y t =
     ∙ ap (laid (base + length xy) (w ∷ [])) (laid_append base (rows base x) (rows (base + entries x) y) t)
     ∙ rw (length-append, rows_length base x, rows_length (base + entries x) y, ← add_assoc, lefts, rights))
 
-module _ {room : ℕ} {text : Text} {s : Start} {kind at made : ℕ} {t : Table} (x : Signed room text s kind at made t) where
-  pub right_refused : {number place : ℕ} (t' : Table) (r : Found) → r ≡ Refused number place → Answered room text (within_pair s at made t) r t'
+module _ {room : ℕ} {text : Text} {s : Start} (g : CodeSign) {at made : ℕ} {t : Table} (x : Half room text s (signed_with g) at made t) where
+  pub right_refused : {found : Refusal} (t' : Table) (r : Found) → r ≡ Err found → Answered room text (within_pair s at made t) r t'
       → Answered room text s r t'
-  right_refused {number} {place} t' r q h =
+  right_refused t' r q h =
       subst (λ (r' : Found). Answered room text s r' t') (sym q)
       (λ fs e.
-      x.half.comes fs e
-      ∙ subst (λ (r' : Found). Answered room text (within_pair s at made t) r' t') q h (signed x.half.expression x.sign ∷ fs) (omega arith))
+      x.comes fs e
+      ∙ subst (λ (r' : Found). Answered room text (within_pair s at made t) r' t') q h (signed x.expression (as_sign g) ∷ fs) (omega arith))
 
   module _ {at₂ made₂ : ℕ} {t₂ : Table} (y : After room text (within_pair s at made t) at₂ made₂ t₂) (n : get_or text at₂ 0 ≡ byte_* → ⊥) where
-    right_comes : Comes room text s at₂ made₂ (λ fs. after y.expression (signed x.half.expression x.sign ∷ fs))
-    right_comes fs e = x.half.comes fs e ∙ y.reads (signed x.half.expression x.sign ∷ fs) (omega arith)
+    right_comes : Comes room text s at₂ made₂ (λ fs. after y.expression (signed x.expression (as_sign g) ∷ fs))
+    right_comes fs e = x.comes fs e ∙ y.reads (signed x.expression (as_sign g) ∷ fs) (omega arith)
 
-    close_refused : (number place : ℕ) (t₃ : Table) → CloseAt text room at₂ made₂ (pair_row kind made made₂) t₂ (Refused number place) t₃
-        → Answered room text s (Refused number place) t₃
+    close_refused : (kind : ℕ) (found : Refusal) (t₃ : Table) → CloseAt text room at₂ made₂ (pair_row kind made made₂) t₂ (Err found) t₃
+        → Answered room text s (Err found) t₃
     unfolding open_at makes_entry finish
-    close_refused number place t₃ h fs e = right_comes fs e ∙ rw h.0 (go h.1)
+    close_refused kind found t₃ h fs e = right_comes fs e ∙ go h
       where
         c : Stand
-        c = after y.expression (signed x.half.expression x.sign ∷ fs)
+        c = after y.expression (signed x.expression (as_sign g) ∷ fs)
 
-        go : ((number ≡ not_grammar) × (at₂ < length text → get_or text at₂ 0 ≡ byte_close → ⊥))
-            ⊎ ((number ≡ too_many_entries) × (at₂ < length text) × (get_or text at₂ 0 ≡ byte_close) × (room ≤ made₂))
-            → scan_at room text at₂ made₂ c ≡ refused (refusal number at₂)
+        go : ((stated found ≡ refusal not_grammar at₂) × (at₂ < length text → get_or text at₂ 0 ≡ byte_close → ⊥))
+            ⊎ ((stated found ≡ refusal too_many_entries at₂) × (at₂ < length text) × (get_or text at₂ 0 ≡ byte_close) × (room ≤ made₂))
+            → scan_at room text at₂ made₂ c ≡ refused (stated found)
         go (inl k) =
             rw k.0
             (stuck_here room text at₂ made₂ c y.within
-            (λ q. after_unclosed x.half.expression y.expression x.sign fs (get_or text at₂ 0) n (k.1 q)) refl)
+            (λ q. after_unclosed x.expression y.expression (as_sign g) fs (get_or text at₂ 0) n (k.1 q)) refl)
         go (inr k) =
             rw k.0
-            (at_many room text at₂ made₂ c k.1 (after (binary x.sign x.half.expression y.expression) fs)
-            (after_close x.half.expression y.expression x.sign fs (get_or text at₂ 0) k.2) (omega (arith, x.half.shallow)) (rw k.2) k.3)
+            (at_many room text at₂ made₂ c k.1 (after (binary (as_sign g) x.expression y.expression) fs)
+            (after_close x.expression y.expression (as_sign g) fs (get_or text at₂ 0) k.2) (omega (arith, x.shallow)) (rw k.2) k.3)
 
-    pub pair_answers : (r : Found) (t₃ : Table) → CloseAt text room at₂ made₂ (pair_row kind made made₂) t₂ r t₃ → Answered room text s r t₃
+    pub pair_answers : (kind : ℕ) → kind ≡ sign_number g → (r : Found) (t₃ : Table) → CloseAt text room at₂ made₂ (pair_row kind made made₂) t₂ r t₃
+        → Answered room text s r t₃
     unfolding open_at entries makes_entry
-    pair_answers (Value made₃ cursor) t₃ h =
+    pair_answers kind k (Ok v) t₃ h =
         record {
-          expression = binary x.sign x.half.expression y.expression;
+          expression = binary (as_sign g) x.expression y.expression;
           reads = λ fs e.
               right_comes fs e
               ∙ rw (h.4, h.3)
-              (at_entry room text at₂ made₂ (after y.expression (signed x.half.expression x.sign ∷ fs)) h.0
-              (after (binary x.sign x.half.expression y.expression) fs)
-              (after_close x.half.expression y.expression x.sign fs (get_or text at₂ 0) h.1) (omega (arith, x.half.shallow)) (rw h.1) h.2);
-          shallow = omega (arith, x.half.shallow);
-          onward = omega (arith, h.4, x.half.onward, y.onward);
+              (at_entry room text at₂ made₂ (after y.expression (signed x.expression (as_sign g) ∷ fs)) h.0
+              (after (binary (as_sign g) x.expression y.expression) fs)
+              (after_close x.expression y.expression (as_sign g) fs (get_or text at₂ 0) h.1) (omega (arith, x.shallow)) (rw h.1) h.2);
+          shallow = omega (arith, x.shallow);
+          onward = omega (arith, h.4, x.onward, y.onward);
           within = omega (arith, h.4, h.0);
-          counted = omega (arith, h.3, x.half.counted, y.counted);
+          counted = omega (arith, h.3, x.counted, y.counted);
           fits = omega (arith, h.3, h.2);
           laid_out =
               h.5
-              ∙ rw (y.laid_out, y.counted, x.half.laid_out, x.half.counted, x.kind_is)
-              (pair_laid s.made x.sign x.half.expression y.expression s.columns);
+              ∙ rw (y.laid_out, y.counted, x.laid_out, x.counted, k ∙ kind_is g)
+              (pair_laid s.made (as_sign g) x.expression y.expression s.columns);
         }
-    pair_answers (Refused number place) t₃ h = close_refused number place t₃ h
+    pair_answers kind k (Err found) t₃ h = close_refused kind found t₃ h

@@ -1,9 +1,10 @@
--- 01, "Form by location": "Where an answer is an enum, a definition gives this paper's number and values for each of the enum's cases."
-use Rattle.theory.specs.Refusal.{refusal, success}
+-- The answer as 01's numbers. 01: "the result gives the number of entries"; "A refusal returns its number and place and zero in every count".
+use Rattle.std.specs.Prelude.{ℕ, Result, Ok, Err}
+use Rattle.theory.specs.Refusal.{success}
 use Rattle.theory.specs.Read.{Entered}
-use Rattle.reader.specs.declared.Reading.{Reading}
-use Rattle.reader.specs.declared.Reading.TheVariants.{Read, Refused}
+use Rattle.theory.specs.Stated.{stated}
+use Rattle.theory.specs.declared.refusal.Refusal.{Refusal}
 
-abbrev pub answer : Reading → Entered
-answer (Read entries) = record { refusal = success; entries = entries }
-answer (Refused number place) = record { refusal = refusal number place; entries = 0 }
+abbrev pub answer : Result ℕ Refusal → Entered
+answer (Ok entries) = record { refusal = success; entries = entries }
+answer (Err r) = record { refusal = stated r; entries = 0 }

@@ -1,20 +1,25 @@
 -- What the reader's rules owe each other, told by the scan of `theory`: it goes on after what a rule found.
-use Rattle.std.specs.Prelude.{ℕ, ◌+◌, ◌-◌, ◌≤◌, ◌<◌, ◌≡◌, ◌⊎◌, List, [], ◌∷◌, length, drop, get_or}
+use Rattle.std.specs.Prelude.{ℕ, ◌+◌, ◌-◌, ◌≤◌, ◌<◌, ◌≡◌, ◌⊎◌, List, [], ◌∷◌, length, drop, get_or, Option as Maybe, Some, None, Result, Ok, Err}
 use Rattle.std.proofs.Math.Option.{Option, none, some}
 use Rattle.std.proofs.lemmas.List.Edits.{sets}
 use Rattle.theory.specs.Expression.{Expression, Sign, ε, letter, entries}
 use Rattle.theory.specs.Limit.{most_entries, most_open}
 use Rattle.theory.specs.Refusal.{refusal, not_grammar, too_many_entries}
-use Rattle.theory.specs.Table.{Table, table, columns, Row, kind_of_sign}
+use Rattle.theory.specs.Meant.{as_sign}
+use Rattle.theory.specs.Stated.{stated}
+use Rattle.theory.specs.Table.{Table, table, columns, Row}
 use Rattle.theory.specs.Grammar.{Text, Reading, refused, rows, sign_byte, byte_0, byte_close, byte_*}
 use Rattle.theory.specs.Scan.{Token, opening, closing, starring, ∅_token, ε_token, other, signing, naming, Frame, Stand, before, after, scan_from}
-use Rattle.columns.specs.declared.Cursor.{Cursor}
+use Rattle.theory.specs.declared.kind.Sign.{Sign as CodeSign}
+use Rattle.theory.specs.declared.refusal.Refusal.{Refusal}
+use Rattle.columns.specs.declared.cursor.Cursor.{Cursor}
+use Rattle.columns.specs.declared.row.Row.{Row as CodeRow}
 use Rattle.columns.specs.Row.{as_row}
 use Rattle.reader.specs.declared.entries.Point.{Point}
-use Rattle.reader.specs.declared.entries.LeafRow.{LeafRow}
-use Rattle.reader.specs.declared.entries.LeafRow.TheVariants.{Of, Nothing}
-use Rattle.reader.specs.declared.entries.Found.{Found}
-use Rattle.reader.specs.declared.entries.Found.TheVariants.{Value, Refused}
+
+-- 01: "the value with its cursor, or the refusal with its byte".
+abbrev pub Found : Type 0
+Found = Result (ℕ × Cursor) Refusal
 
 -- The columns with rows ws from row `base` on.
 abbrev pub laid : ℕ → List Row → Table → Table
@@ -30,8 +35,8 @@ pub record Room (room : ℕ) (t : Table) : Type 0 where
 
 -- An entry for the byte before the cursor: its row, or 15 where the room is full.
 abbrev pub Entry : (room made : ℕ) → Cursor → List Row → Table → Found → Table → Type 0
-Entry room made cursor ws t (Value made' cursor') t' = (made < room) × (made' ≡ made + 1) × (cursor' ≡ cursor) × (t' ≡ laid made ws t)
-Entry room made cursor ws t (Refused number place) t' = (room ≤ made) × (number ≡ too_many_entries) × (place ≡ cursor.at - 1)
+Entry room made cursor ws t (Ok v) t' = (made < room) × (v.0 ≡ made + 1) × (v.1 ≡ cursor) × (t' ≡ laid made ws t)
+Entry room made cursor ws t (Err r) t' = (room ≤ made) × (stated r ≡ refusal too_many_entries (cursor.at - 1))
 
 -- The expression that a byte is by itself.
 unfoldable pub leaf_of : Token → Option Expression
@@ -45,23 +50,22 @@ leaf_of (signing s) = none
 leaf_of (naming a) = some (letter a)
 
 -- The row that a byte makes by itself, whatever was made before it.
-abbrev pub IsLeafRow : Token → LeafRow → Type 0
-IsLeafRow k (Of w) = (e : Expression) × (leaf_of k ≡ some e) × ((made : ℕ) → rows made e ≡ as_row w ∷ [])
-IsLeafRow k Nothing = leaf_of k ≡ none
+abbrev pub IsLeafRow : Token → Maybe CodeRow → Type 0
+IsLeafRow k (Some w) = (e : Expression) × (leaf_of k ≡ some e) × ((made : ℕ) → rows made e ≡ as_row w ∷ [])
+IsLeafRow k None = leaf_of k ≡ none
 
--- A sign at place `at`, with its entry's kind, or 13.
-abbrev pub SignAt : Text → ℕ → Found → Type 0
-SignAt text at (Value kind cursor) = (s : Sign) × (at < length text) × (get_or text at 0 ≡ sign_byte s) × (kind ≡ kind_of_sign s) × (cursor.at ≡ at + 1)
-SignAt text at (Refused number place) = (number ≡ not_grammar) × (place ≡ at) × ((s : Sign) → at < length text → get_or text at 0 ≡ sign_byte s → ⊥)
+-- A sign at place `at`, or 13.
+abbrev pub SignAt : Text → ℕ → Result (CodeSign × Cursor) Refusal → Type 0
+SignAt text at (Ok v) = (at < length text) × (get_or text at 0 ≡ sign_byte (as_sign v.0)) × (v.1.at ≡ at + 1)
+SignAt text at (Err r) = (stated r ≡ refusal not_grammar at) × ((s : Sign) → at < length text → get_or text at 0 ≡ sign_byte s → ⊥)
 
 -- `)` at place `at`, where the sign's entry is made: 13 where there is none, and 15 where the room is full.
 abbrev pub CloseAt : Text → (room at made : ℕ) → Row → Table → Found → Table → Type 0
-CloseAt text room at made w t (Value made' cursor) t' =
-    (at < length text) × (get_or text at 0 ≡ byte_close) × (made < room) × (made' ≡ made + 1) × (cursor.at ≡ at + 1) × (t' ≡ laid made (w ∷ []) t)
-CloseAt text room at made w t (Refused number place) t' =
-    (place ≡ at)
-    × (((number ≡ not_grammar) × (at < length text → get_or text at 0 ≡ byte_close → ⊥))
-    ⊎ ((number ≡ too_many_entries) × (at < length text) × (get_or text at 0 ≡ byte_close) × (room ≤ made)))
+CloseAt text room at made w t (Ok v) t' =
+    (at < length text) × (get_or text at 0 ≡ byte_close) × (made < room) × (v.0 ≡ made + 1) × (v.1.at ≡ at + 1) × (t' ≡ laid made (w ∷ []) t)
+CloseAt text room at made w t (Err r) t' =
+    ((stated r ≡ refusal not_grammar at) × (at < length text → get_or text at 0 ≡ byte_close → ⊥))
+    ⊎ ((stated r ≡ refusal too_many_entries at) × (at < length text) × (get_or text at 0 ≡ byte_close) × (room ≤ made))
 
 -- ---- Expression and operand
 
@@ -103,11 +107,11 @@ pub record After (room : ℕ) (text : Text) (s : Start) (at made : ℕ) (t : Tab
 
 -- A rule's answer: the expression after which it stopped, or the refusal that the scan gives.
 abbrev pub Answered : (room : ℕ) → Text → Start → Found → Table → Type 0
-Answered room text s (Value made cursor) t' = After room text s cursor.at made t'
-Answered room text s (Refused number place) t' =
-    (fs : List Frame) → length fs ≡ s.depth → scan_at room text s.at s.made (before fs) ≡ refused (refusal number place)
+Answered room text s (Ok v) t' = After room text s v.1.at v.0 t'
+Answered room text s (Err r) t' =
+    (fs : List Frame) → length fs ≡ s.depth → scan_at room text s.at s.made (before fs) ≡ refused (stated r)
 
 -- No `*` follows: the expression is as long as it can be.
 abbrev pub Unstarred : Text → Found → Type 0
-Unstarred text (Value made cursor) = get_or text cursor.at 0 ≡ byte_* → ⊥
-Unstarred text (Refused number place) = Unit {0}
+Unstarred text (Ok v) = get_or text v.1.at 0 ≡ byte_* → ⊥
+Unstarred text (Err r) = Unit {0}

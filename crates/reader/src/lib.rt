@@ -5,60 +5,49 @@
 mod entries;
 mod rules;
 
-ghost use Rattle.theory.specs.Table.{table};
 ghost use Rattle.theory.specs.Read.{Read};
+ghost use Rattle.columns.specs.Table.{lent_table, SameTable};
 ghost use Rattle.reader.specs.Answer.{answer};
 ghost use Rattle.reader.specs.Whole.{Limited};
 
+use columns::table::TableMut;
 use entries::Found;
-use theory::{limit, refusal};
+use theory::limit;
+use theory::refusal::{Cause, Refusal};
 
 // 01: "the result gives the number of entries"; "A refusal returns its number and place".
-#[derive(Drop)]
-pub enum Reading {
-    Read { entries: usize },
-    Refused { number: u8, place: usize },
-}
-
-pub fn read(text: &[u8], kind: &mut [u8], left: &mut [u16], right: &mut [u16]) -> Reading
-    ensures { Read text.now (table kind.old left.old right.old) (answer result)
-        (table kind.new left.new right.new) }
+pub fn read(text: &[u8], table: &mut TableMut<'_>) -> Result<usize, Refusal>
+    ensures same { SameTable table.old table.new }
+    ensures read { Read text.now (lent_table table.old) (answer result) (lent_table table.new) }
 {
-    let found = limited(text, kind, left, right);
-    match found {
-        Found::Value(entries, _) => Reading::Read { entries },
-        Found::Refused { number, place } => {
-            columns::clear_table(kind, left, right);
-            Reading::Refused { number, place }
+    match limited(text, table) {
+        Ok((entries, _)) => Ok(entries),
+        Err(refusal) => {
+            table.clear();
+            Err(refusal)
         }
     }
 }
 
 // 01: "Reader: 1, 12, then the one of 13, 14, 15 with the earliest byte".
-#[tactic(auto, using(crate::proofs::Whole::due_long, crate::proofs::Whole::both_equal))]
-fn limited(text: &[u8], kind: &mut [u8], left: &mut [u16], right: &mut [u16]) -> Found
-    ensures { Limited text.now (table kind.old left.old right.old) result
-        (table kind.new left.new right.new) }
+#[tactic(auto, using(crate::proofs::Whole::due_differ, crate::proofs::Whole::due_long, crate::proofs::Whole::limited))]
+fn limited(text: &[u8], table: &mut TableMut<'_>) -> Found
+    ensures same { SameTable table.old table.new }
+    ensures limited { Limited text.now (lent_table table.old) result (lent_table table.new) }
 {
-    columns::clear_table(kind, left, right);
-    let room = kind.len();
-    if (left.len() != room) | (right.len() != room) {
-        return Found::Refused {
-            number: refusal::COLUMNS_DIFFER,
+    table.clear();
+    if !table.view().is_even() {
+        return Err(Refusal {
+            cause: Cause::ColumnsDiffer,
             place: 0,
-        };
+        });
     }
     if limit::TEXT < text.len() {
-        return Found::Refused {
-            number: refusal::TEXT_LONG,
+        return Err(Refusal {
+            cause: Cause::TextLong,
             place: 0,
-        };
+        });
     }
-    rules::whole(
-        text,
-        columns::smaller(limit::ENTRIES, room),
-        kind,
-        left,
-        right,
-    )
+    let room = limit::ENTRIES.min(table.kind.len());
+    rules::whole(text, room, table)
 }

@@ -1,140 +1,127 @@
 // 01: "Expression and operand are read by rules that call each other, as the grammar does."
 
 ghost use Rattle.std.specs.Prelude.{◌≡◌};
-ghost use Rattle.theory.specs.Table.{table};
+ghost use Rattle.columns.specs.Table.{lent_table, SameTable};
 ghost use Rattle.reader.specs.Found.{Room, begins, MayBegin, Answered, Unstarred};
 ghost use Rattle.reader.specs.Whole.{at_start, Begun, WholeRead};
 
 use super::entries;
-use super::entries::{Found, LeafRow, Point};
-use columns::{Cursor, Row, Step};
-use theory::{kind, limit, refusal};
+use super::entries::{Found, Point, not_grammar};
+use columns::cursor::Cursor;
+use columns::row::Row;
+use columns::table::TableMut;
+use theory::kind::Kind;
+use theory::limit;
+use theory::refusal::{Cause, Refusal};
 
 // An operand and the stars after it.
 #[cycle(expression_operand)]
-fn expression(text: &[u8], at: Point, kind: &mut [u8], left: &mut [u16], right: &mut [u16]) -> Found
-    requires { MayBegin at.room text.now (begins at (table kind.old left.old right.old)) }
-    ensures { Answered at.room text.now (begins at (table kind.old left.old right.old)) result
-        (table kind.new left.new right.new)
-        × Unstarred text.now result }
+#[tactic(auto, using(crate::proofs::Answers::after_positive))]
+fn expression(text: &[u8], at: Point, table: &mut TableMut<'_>) -> Found
+    requires { MayBegin at.room text.now (begins at (lent_table table.old)) }
+    ensures same { SameTable table.old table.new }
+    ensures answered { Answered at.room text.now (begins at (lent_table table.old)) result
+        (lent_table table.new) }
+    ensures unstarred { Unstarred text.now result }
 {
-    let first = operand(text, at, kind, left, right);
-    let Found::Value(made, cursor) = first else {
+    let first = operand(text, at, table);
+    let Ok((made, cursor)) = first else {
         return first;
     };
-    entries::stars(text, Point { cursor, made, ..at }, kind, left, right)
+    entries::stars(text, Point { cursor, made, ..at }, table)
 }
 
 // `1`, a letter, or two expressions with their sign in parentheses.
 #[cycle(expression_operand)]
-fn operand(text: &[u8], at: Point, kind: &mut [u8], left: &mut [u16], right: &mut [u16]) -> Found
-    requires { MayBegin at.room text.now (begins at (table kind.old left.old right.old)) }
-    ensures { Answered at.room text.now (begins at (table kind.old left.old right.old)) result
-        (table kind.new left.new right.new) }
+#[tactic(auto, using(crate::proofs::Answers::after_positive))]
+fn operand(text: &[u8], at: Point, table: &mut TableMut<'_>) -> Found
+    requires { MayBegin at.room text.now (begins at (lent_table table.old)) }
+    ensures same { SameTable table.old table.new }
+    ensures answered { Answered at.room text.now (begins at (lent_table table.old)) result
+        (lent_table table.new) }
 {
-    let cursor = at.cursor;
-    let place = cursor.at;
-    let Step::Byte(byte, cursor) = cursor.step(text) else {
-        return Found::Refused {
-            number: refusal::NOT_GRAMMAR,
-            place,
-        };
+    let place = at.cursor.at;
+    let Some((byte, cursor)) = at.cursor.step(text) else {
+        return Err(not_grammar(place));
     };
     let mut after = at;
     after.cursor = cursor;
     if byte != b'(' {
-        let LeafRow::Of(row) = entries::leaf(byte) else {
-            return Found::Refused {
-                number: refusal::NOT_GRAMMAR,
-                place,
-            };
+        let Some(row) = entries::leaf(byte) else {
+            return Err(not_grammar(place));
         };
-        return entries::entry(after, row, kind, left, right);
+        return entries::entry(after, row, table);
     }
-    let depth = at.depth;
-    if depth == limit::OPEN {
-        return Found::Refused {
-            number: refusal::TOO_DEEP,
+    if at.depth == limit::OPEN {
+        return Err(Refusal {
+            cause: Cause::TooDeep,
             place,
-        };
+        });
     }
-    after.depth = depth + 1;
-    let x = expression(text, after, kind, left, right);
-    let Found::Value(first, cursor) = x else {
+    after.depth = at.depth + 1;
+    let x = expression(text, after, table);
+    let Ok((first, cursor)) = x else {
         return x;
     };
-    let sign = entries::sign(text, cursor);
-    let Found::Value(kind_of_sign, cursor) = sign else {
-        return sign;
+    let (sign, cursor) = match entries::sign(text, cursor) {
+        Ok(read) => read,
+        Err(refusal) => return Err(refusal),
     };
     after.cursor = cursor;
     after.made = first;
-    let y = expression(text, after, kind, left, right);
-    let Found::Value(second, cursor) = y else {
+    let y = expression(text, after, table);
+    let Ok((second, cursor)) = y else {
         return y;
     };
     let row = Row {
-        kind: kind_of_sign as u8,
+        kind: Kind::Sign(sign).number(),
         left: (first - 1) as u16,
         right: (second - 1) as u16,
     };
     after.cursor = cursor;
     after.made = second;
-    entries::close(text, after, row, kind, left, right)
+    entries::close(text, after, row, table)
 }
 
 // 01: "`0` alone is the empty language." Any other text begins with an expression.
-fn beginning(text: &[u8], at: Point, kind: &mut [u8], left: &mut [u16], right: &mut [u16]) -> Found
-    requires { Room at.room (table kind.old left.old right.old) × (at ≡ at_start at.room) }
-    ensures { Begun at.room text.now (table kind.old left.old right.old) result
-        (table kind.new left.new right.new) }
+#[tactic(auto, using(crate::proofs::Whole::beginning_laws))]
+fn beginning(text: &[u8], at: Point, table: &mut TableMut<'_>) -> Found
+    requires { Room at.room (lent_table table.old) × (at ≡ at_start at.room) }
+    ensures same { SameTable table.old table.new }
+    ensures begun { Begun at.room text.now (lent_table table.old) result (lent_table table.new) }
 {
-    let start = at.cursor;
-    let Step::Byte(byte, cursor) = start.step(text) else {
-        return Found::Refused {
-            number: refusal::NOT_GRAMMAR,
-            place: 0,
-        };
+    let Some((byte, cursor)) = at.cursor.step(text) else {
+        return Err(not_grammar(0));
     };
     if byte == b'0' {
         let row = Row {
-            kind: kind::EMPTY_LANGUAGE,
+            kind: Kind::EmptyLanguage.number(),
             left: 0,
             right: 0,
         };
-        return entries::entry(Point { cursor, ..at }, row, kind, left, right);
+        return entries::entry(Point { cursor, ..at }, row, table);
     }
-    expression(text, at, kind, left, right)
+    expression(text, at, table)
 }
 
 // A beginning, and the end of the text after it.
-pub fn whole(
-    text: &[u8],
-    room: usize,
-    kind: &mut [u8],
-    left: &mut [u16],
-    right: &mut [u16],
-) -> Found
-    requires { Room room (table kind.old left.old right.old) }
-    ensures { WholeRead room text.now (table kind.old left.old right.old) result
-        (table kind.new left.new right.new) }
+pub fn whole(text: &[u8], room: usize, table: &mut TableMut<'_>) -> Found
+    requires { Room room (lent_table table.old) }
+    ensures same { SameTable table.old table.new }
+    ensures whole { WholeRead room text.now (lent_table table.old) result (lent_table table.new) }
 {
-    let cursor = Cursor::start();
     let start = Point {
-        cursor,
+        cursor: Cursor::start(),
         depth: 0,
         made: 0,
         room,
     };
-    let found = beginning(text, start, kind, left, right);
-    let Found::Value(_, cursor) = found else {
+    let found = beginning(text, start, table);
+    let Ok((_, cursor)) = found else {
         return found;
     };
-    let Step::End = cursor.step(text) else {
-        return Found::Refused {
-            number: refusal::NOT_GRAMMAR,
-            place: cursor.at,
-        };
+    let None = cursor.step(text) else {
+        return Err(not_grammar(cursor.at));
     };
     found
 }

@@ -1,2 +1,3 @@
 pub mod Digits
+pub mod Counted
 pub mod Turned

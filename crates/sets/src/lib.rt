@@ -13,9 +13,10 @@ pub fn words(states: usize) -> usize
     requires { states ≤ most_states }
     ensures { result ≡ words states }
 {
-    (states + 63) / 64
+    states.div_ceil(64)
 }
 
+#[tactic(auto, unfolding(crate::specs::Bits::bit, crate::specs::Bits::digit))]
 pub fn marked(words: &[u64], number: usize) -> bool
     requires { number / 64 < length words.now }
     ensures { result ≡ bit words.now number }
@@ -28,7 +29,7 @@ pub fn mark(words: &mut [u64], number: usize)
     ensures { (t : ℕ) → bit words.new t ≡ (bit words.old t || eqb t number) }
 {
     let word = number / 64;
-    words[word] = words[word] | (1u64 << (number % 64));
+    words[word] |= 1u64 << (number % 64);
 }
 
 // The set bits of the first n words. 1,024 words hold every state that 01 allows.
@@ -36,13 +37,10 @@ pub fn count(n: usize, words: &[u64]) -> usize
     requires { (n ≤ length words.now) × (n ≤ 1024) }
     ensures { result ≡ count_below (n * 64) (bit words.now) }
 {
-    let mut ones: usize = 0;
-    let mut i = 0;
-    while i < n {
-        ones += u64::count_ones(words[i]) as usize;
-        i += 1;
-    }
-    ones
+    words[..n]
+        .iter()
+        .map(|word| word.count_ones() as usize)
+        .sum()
 }
 
 // The first n words of `next` are handed to `current` and cleared. The answer: whether one of their bits was set.
@@ -53,13 +51,11 @@ pub fn turn(n: usize, current: &mut [u64], next: &mut [u64]) -> bool
     ensures set { result ≡ some_below (n * 64) (bit next.old) }
 {
     let mut any = false;
-    let mut i = 0;
-    while i < n {
+    for i in 0..n {
         let word = next[i];
-        any = any | (word != 0);
+        any |= word != 0;
         current[i] = word;
         next[i] = 0;
-        i += 1;
     }
     any
 }

@@ -1,1 +1,3 @@
+pub mod Stated
 mod Scanning
+mod Named

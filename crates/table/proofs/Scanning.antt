@@ -1,16 +1,17 @@
--- A scan for the first fault, as a loop runs it: how it begins, how it goes on, and the two ways in which it ends.
+-- A scan for the first fault, as a loop runs it: how it goes on, and the two ways in which it ends; and one scan after the other.
 use Prim.Native.Nat.{ℕ, ◌+◌, ◌-◌, ◌≤◌, ◌<◌}
-use native.Mathlib.Nat.{sub-zero}
 use native.Mathlib.Omega.{arith}
-use mathlib.Core.Path.{◌≡◌, refl, sym, ap, ◌∙◌, subst}
+use mathlib.Core.Path.{◌≡◌, sym, ap, ◌∙◌}
 use mathlib.Core.Bool.{Bool, cond}
 use borrow.Author.Tests.{eq-eqb, ne_eqb}
-use Rattle.theory.specs.Refusal.{Refusal, refusal, or_else}
+use Rattle.std.specs.Prelude.{Result, Ok, Err}
+use Rattle.theory.specs.Refusal.{Refusal as Wanted, refusal, success, or_else}
+use Rattle.theory.specs.Stated.{stated, refusal_in}
 use Rattle.theory.specs.Table.{first_fault}
+use Rattle.theory.specs.declared.refusal.Refusal.{Refusal}
 use Rattle.theory.proofs.FirstFault.{over, at_fault, at_end}
-use Rattle.table.specs.Checked.{Scanned, refusal_of}
-use Rattle.table.specs.declared.Checked.{Checked}
-use Rattle.table.specs.declared.Checked.TheVariants.{Fine, Refused}
+use Rattle.theory.proofs.TableRefusal.{refused_differ, refused_empty, refused_long, refused_later}
+use Rattle.table.proofs.Stated.{not_zero}
 
 -- The scan of all n entries is the scan of those from i on.
 pub record Scanning (fault : ℕ → ℕ) (n i : ℕ) : Type 0 where
@@ -18,41 +19,30 @@ pub record Scanning (fault : ℕ → ℕ) (n i : ℕ) : Type 0 where
   pub left : first_fault fault 0 n ≡ first_fault fault i (n - i)
 
 module _ (fault : ℕ → ℕ) (n : ℕ) where
-  pub scan_begins : Scanning fault n 0
-  scan_begins = record { within = omega arith; left = ap (first_fault fault 0) (sym (sub-zero n)) }
-
   pub scan_over : (i : ℕ) → Scanning fault n i → i < n → fault i ≡ 0 → Scanning fault n (i + 1)
   scan_over i s l e = record { within = omega arith; left = s.left ∙ over fault i n l e }
 
-  pub scan_found : (i number : ℕ) → Scanning fault n i → i < n → number ≡ fault i → (number ≡ 0 → ⊥) → Scanned (Refused number i) (first_fault fault 0 n)
-  scan_found i number s l e no_zero =
-      let found : first_fault fault 0 n ≡ refusal (fault i) i = s.left ∙ at_fault fault i n l (λ z. no_zero (e ∙ z)) in
-      record {
-        is = ap (λ (k : ℕ). refusal k i) e ∙ sym found;
-        fine = λ z. absurd (no_zero (e ∙ sym (ap (λ (r : Refusal). r.number) found) ∙ z));
-      }
+  pub scan_found : (k i : ℕ) → Scanning fault n i → i < n → k ≡ fault i → (k ≡ 0 → ⊥) → refusal k i ≡ first_fault fault 0 n
+  scan_found k i s l e no_zero = ap (λ (m : ℕ). refusal m i) e ∙ sym (s.left ∙ at_fault fault i n l (λ z. no_zero (e ∙ z)))
 
-  pub scan_ends : (i : ℕ) → Scanning fault n i → n ≤ i → Scanned Fine (first_fault fault 0 n)
-  scan_ends i s l = record { is = sym (s.left ∙ at_end fault i n l); fine = λ _. refl }
+  pub scan_ends : (i : ℕ) → Scanning fault n i → n ≤ i → success ≡ first_fault fault 0 n
+  scan_ends i s l = sym (s.left ∙ at_end fault i n l)
+
+pub ruleset scan_laws = (scan_over, scan_found, scan_ends, not_zero)
 
 -- ---- One scan after the other
 
-refused_not_fine : {number place : ℕ} → Refused number place ≡ Fine → ⊥
-refused_not_fine e = let z : ◌≡◌ {A = ℕ} 0 1 = cc in omega arith
+module _ {r : Result (Unit {0}) Refusal} {wanted : Wanted} (other : Wanted) (e : refusal_in r ≡ wanted) where
+  pub first_stands : (found : Refusal) → r ≡ Err found → stated found ≡ or_else wanted other
+  first_stands found q =
+      let w : stated found ≡ wanted = sym (ap refusal_in q) ∙ e in
+      let n = ne_eqb wanted.number 0 (λ z. not_zero found.cause (ap (λ (v : Wanted). v.number) w ∙ z)) in
+      w ∙ sym (ap (λ (b : Bool). cond b other wanted) n)
 
-pub scanned_for : {r : Checked} {wanted wanted' : Refusal} → wanted ≡ wanted' → Scanned r wanted → Scanned r wanted'
-scanned_for {r} e s = subst (Scanned r) e s
+  pub second_stands : (v : Unit {0}) → r ≡ Ok v → other ≡ or_else wanted other
+  second_stands v q =
+      let z : wanted.number ≡ 0 = ap (λ (w : Wanted). w.number) (sym e ∙ ap refusal_in q) in
+      sym (ap (λ (b : Bool). cond b other wanted) (eq-eqb wanted.number 0 z))
 
-pub scanned_refused : {wanted : Refusal} (number place : ℕ) → (number ≡ 0 → ⊥) → wanted ≡ refusal number place → Scanned (Refused number place) wanted
-scanned_refused number place n e = record { is = sym e; fine = λ z. absurd (n (sym (ap (λ (w : Refusal). w.number) e) ∙ z)) }
-
-pub first_stands : {r : Checked} {wanted : Refusal} (other : Refusal) (number place : ℕ) → Scanned r wanted → r ≡ Refused number place
-    → Scanned (Refused number place) (or_else wanted other)
-first_stands {r} {wanted} other number place s e =
-    let n = ne_eqb wanted.number 0 (λ z. refused_not_fine (sym e ∙ s.fine z)) in
-    scanned_for (sym (ap (λ (b : Bool). cond b other wanted) n)) (subst (λ x. Scanned x wanted) e s)
-
-pub second_stands : {r s : Checked} {wanted other : Refusal} → Scanned r wanted → r ≡ Fine → Scanned s other → Scanned s (or_else wanted other)
-second_stands {r} {s} {wanted} {other} a e b =
-    let z : wanted.number ≡ 0 = ap (λ (w : Refusal). w.number) (sym a.is ∙ ap refusal_of e) in
-    scanned_for (sym (ap (λ (d : Bool). cond d other wanted) (eq-eqb wanted.number 0 z))) b
+-- 01's order of the refusals.
+pub ruleset order_laws = (refused_differ, refused_empty, refused_long, refused_later, first_stands, second_stands)

@@ -5,42 +5,37 @@
 mod entry;
 mod naming;
 
-ghost use Rattle.theory.specs.Table.{table, table_refusal};
-ghost use Rattle.table.specs.Checked.{Scanned};
+ghost use Rattle.std.specs.Prelude.{◌≡◌};
+ghost use Rattle.theory.specs.Stated.{refusal_in};
+ghost use Rattle.theory.specs.Table.{table_refusal};
+ghost use Rattle.columns.specs.Table.{read_table};
 
-use theory::{limit, refusal};
+use columns::table::Table;
+use theory::limit;
+use theory::refusal::{Cause, Refusal};
 
-#[derive(Drop)]
-pub enum Checked {
-    Fine,
-    Refused { number: u8, place: usize },
-}
-
-#[tactic(auto, using(crate::proofs::Scanning::scanned_refused, theory::proofs::TableRefusal::refused_long))]
-pub fn check(kind: &[u8], left: &[u16], right: &[u16]) -> Checked
-    ensures { Scanned result (table_refusal (table kind.now left.now right.now)) }
+#[tactic(auto, using(crate::proofs::Scanning::order_laws))]
+pub fn check(table: Table<'_>) -> Result<(), Refusal>
+    ensures { refusal_in result ≡ table_refusal (read_table table.entry) }
 {
-    if left.len() != kind.len() || right.len() != kind.len() {
-        return Checked::Refused {
-            number: refusal::COLUMNS_DIFFER,
+    if !table.is_even() {
+        return Err(Refusal {
+            cause: Cause::ColumnsDiffer,
             place: 0,
-        };
+        });
     }
-    if kind.len() == 0 {
-        return Checked::Refused {
-            number: refusal::TABLE_EMPTY,
+    if table.kind.is_empty() {
+        return Err(Refusal {
+            cause: Cause::TableEmpty,
             place: 0,
-        };
+        });
     }
-    if limit::ENTRIES < kind.len() {
-        return Checked::Refused {
-            number: refusal::TABLE_LONG,
+    if limit::ENTRIES < table.kind.len() {
+        return Err(Refusal {
+            cause: Cause::TableLong,
             place: 0,
-        };
+        });
     }
-    let scanned = entry::entries_checked(kind, left, right);
-    match scanned {
-        Checked::Refused { number, place } => Checked::Refused { number, place },
-        Checked::Fine => naming::naming_checked(kind, left, right),
-    }
+    entry::entries_checked(table)?;
+    naming::naming_checked(table)
 }

@@ -5,13 +5,10 @@ use Rattle.sets.proofs.Turned.{turned_none, turned_more}
 use Rattle.sets.proofs.turn.Goals as goal
 
 pub loop-i-init : goal.loop-i-init
-loop-i-init c = record { in_range = omega arith; turned = turned_none _ _ }
+loop-i-init c = turned_none _ _
 
 pub loop-i-preserved : goal.loop-i-preserved
 loop-i-preserved c =
-    let r = c.loop-i.invariant.turned in
+    let r = c.loop-i.invariant in
     let fits : get_or c.loop-i.next c.loop-i.i 0 < 2 ^ 64 = search rules in
-    record {
-      in_range = omega arith;
-      turned = turned_more r (omega (arith, r.current_length)) (omega (arith, r.next_length)) fits;
-    }
+    turned_more r (omega (arith, r.current_length)) (omega (arith, r.next_length)) fits

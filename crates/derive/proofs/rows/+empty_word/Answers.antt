@@ -1,37 +1,37 @@
--- A leaf's answer, a star's, and a sign's from its children's.
-use Rattle.std.proofs.Common.{◌∙◌, arith}
-use mathlib.Core.Path.{ap₂}
-use mathlib.Core.Bool.{◌&&◌, ◌||◌}
-use Rattle.derive.proofs.Growing.{sound_to_less}
-use Rattle.derive.proofs.Reading.{reads, sign_read, word_leaf, word_star, word_union, word_both}
+-- The literal empty word and a star have the empty word, a sign by its children's answers, and no other kind.
+use Rattle.std.proofs.Common.{arith}
+use Rattle.derive.proofs.Reading.{word_unknown, word_ε, word_star, word_other, left_before, right_before, word_union, word_both}
 use Rattle.derive.proofs.rows.+empty_word.Goals as goal
+
+pub returns-in_default : goal.returns-in_default
+returns-in_default t c = word_unknown _ _ c.row-w.ensures c.in_default.ensures
+
+pub returns-in-EmptyWord : goal.returns-in-EmptyWord
+returns-in-EmptyWord t c = word_ε _ _ c.row-w.ensures c.in-Some.ensures c.in-EmptyWord.is
 
 pub empty_word-a-requires : goal.empty_word-a-requires
 empty_word-a-requires t c =
-    let k = reads c.row_at-w.result c.children.result c.requires c.row_at-w.ensures c.children.ensures in
-    let p = sign_read k c.in-Two.is in
-    (omega (arith, p.1), sound_to_less c.requires p.1)
+    let p = left_before _ _ c.row-w.ensures c.in-Some.ensures c.in-Sign.is c.requires in
+    (omega (arith, p.0), p.1)
 
 pub empty_word-b-requires : goal.empty_word-b-requires
 empty_word-b-requires t c =
-    let k = reads c.row_at-w.result c.children.result c.requires c.row_at-w.ensures c.children.ensures in
-    let p = sign_read k c.in-Two.is in
-    (omega (arith, p.2), sound_to_less c.requires p.2)
+    let p = right_before _ _ c.row-w.ensures c.in-Some.ensures c.in-Sign.is c.requires in
+    (omega (arith, p.0), p.1)
 
-pub returns-in-Nothing : goal.returns-in-Nothing
-returns-in-Nothing t c =
-    word_leaf (reads c.row_at-w.result c.children.result c.requires c.row_at-w.ensures c.children.ensures) c.in-Nothing.is
+pub returns-in-Union : goal.returns-in-Union
+returns-in-Union t c =
+    word_union _ _ c.row-w.ensures c.in-Some.ensures c.in-Sign.is c.requires c.empty_word-a.ensures c.empty_word-b.ensures
+    c.in-Union.is
 
-pub returns-in-One : goal.returns-in-One
-returns-in-One t c =
-    word_star (reads c.row_at-w.result c.children.result c.requires c.row_at-w.ensures c.children.ensures) c.in-One.is
+pub returns-in_default-sign : goal.returns-in_default-sign
+returns-in_default-sign t c =
+    word_both _ _ c.row-w.ensures c.in-Some.ensures c.in-Sign.is c.requires c.empty_word-a.ensures c.empty_word-b.ensures
+    c.in_default-sign.not-Union
 
-pub returns-then-w-eq-UNION : goal.returns-then-w-eq-UNION
-returns-then-w-eq-UNION t c =
-    let k = reads c.row_at-w.result c.children.result c.requires c.row_at-w.ensures c.children.ensures in
-    ap₂ ◌||◌ c.empty_word-a.ensures c.empty_word-b.ensures ∙ word_union k c.in-Two.is c.if-w-eq-UNION.true
+pub returns-in-Star : goal.returns-in-Star
+returns-in-Star t c = word_star _ _ c.row-w.ensures c.in-Some.ensures c.in-Star.is
 
-pub returns-else-w-eq-UNION : goal.returns-else-w-eq-UNION
-returns-else-w-eq-UNION t c =
-    let k = reads c.row_at-w.result c.children.result c.requires c.row_at-w.ensures c.children.ensures in
-    ap₂ ◌&&◌ c.empty_word-a.ensures c.empty_word-b.ensures ∙ word_both k c.in-Two.is c.if-w-eq-UNION.false
+pub returns-in_default-kind : goal.returns-in_default-kind
+returns-in_default-kind t c =
+    word_other _ _ c.row-w.ensures c.in-Some.ensures c.in_default-kind.not-EmptyWord c.in_default-kind.not-Sign c.in_default-kind.not-Star

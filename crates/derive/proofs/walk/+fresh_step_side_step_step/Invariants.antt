@@ -1,7 +1,7 @@
 -- The falling number of `fresh_step`, `side_step` and `step`: three times the row, and between a row and its child stand the side and the
 -- walk beyond the left side.
 use Rattle.std.proofs.Common.{suc, ◌*◌, length}
-use Rattle.theory.specs.Table.{table}
+use Rattle.derive.specs.Rows.{rows_table, SameRows}
 use Rattle.derive.specs.Sides.{side_list}
 use Rattle.derive.specs.Walk.{to_come}
 use Rattle.derive.proofs.FreshStep.{PassedOver}
@@ -18,10 +18,11 @@ abbrev pub decreases-step : goal.decreases-step
 decreases-step l = suc (suc (3 * l.row))
 
 -- Members of the right side up to a place, all of them in the left side, have been passed over.
-abbrev pub invariant-fresh_step-loop-row : goal.invariant-fresh_step-loop-row
-invariant-fresh_step-loop-row l =
-    PassedOver (table l.fn.kind l.fn.left l.fn.right) l.fn.used l.room l.letter l.a l.b l.fn.place (table l.kind l.left l.right) l.n l.at
+abbrev pub invariant-fresh_step-loop-member : goal.invariant-fresh_step-loop-member
+invariant-fresh_step-loop-member l =
+    SameRows l.fn.rows l.rows
+    × PassedOver (rows_table l.fn.rows) l.fn.rows.used l.fn.rows.room l.letter l.a l.b l.fn.after (rows_table l.rows) l.rows.used l.at
 
-abbrev pub decreases-fresh_step-loop-row : goal.decreases-fresh_step-loop-row
-decreases-fresh_step-loop-row l =
-    length (to_come (table l.kind l.left l.right) l.at (side_list l.letter (table l.fn.kind l.fn.left l.fn.right) l.b))
+abbrev pub decreases-fresh_step-loop-member : goal.decreases-fresh_step-loop-member
+decreases-fresh_step-loop-member l =
+    length (to_come (rows_table l.rows) l.at (side_list l.letter (rows_table l.fn.rows) l.b))

@@ -1,5 +1,5 @@
 -- `accepts` meets its contract: the answer is that of the states passed.
-use Rattle.std.proofs.Common.{ℕ, ◌+◌, ◌≡◌, Bool, ◌&&◌, ◌||◌, List, refl, ap, ◌∙◌, arith, get_or, eqb}
+use Rattle.std.proofs.Common.{ℕ, ◌+◌, ◌≡◌, Bool, ◌&&◌, ◌||◌, List, refl, ap, ◌∙◌, get_or, eqb}
 use Rattle.theory.specs.Below.{some_below}
 use Rattle.theory.proofs.Below.{some_next}
 use Rattle.sets.specs.Bits.{bit}
@@ -15,10 +15,7 @@ state_more set accepting t {any} seen e =
 
 pub loop-t-init : goal.loop-t-init
 unfolding some_below
-loop-t-init c = record { in_range = omega arith; seen = refl }
+loop-t-init c = refl
 
 pub loop-t-preserved : goal.loop-t-preserved
-loop-t-preserved c = record {
-  in_range = omega arith;
-  seen = state_more c.args.current.now c.args.accepting.now c.loop-t.t c.loop-t.invariant.seen c.marked.ensures;
-}
+loop-t-preserved c = state_more c.args.current.now c.args.automaton.accepting.now c.loop-t.t c.loop-t.invariant c.marked.ensures

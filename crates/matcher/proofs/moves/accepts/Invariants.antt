@@ -1,14 +1,8 @@
--- Whether one of the states passed is set and accepting: what `accepts` keeps, and what falls.
-use Rattle.std.proofs.Common.{◌-◌, ◌≡◌, ◌&&◌, ◌≤◌, get_or, eqb}
+-- Whether one of the states passed is set and accepting: what `accepts` keeps.
+use Rattle.std.proofs.Common.{◌≡◌, ◌&&◌, get_or, eqb}
 use Rattle.theory.specs.Below.{some_below}
 use Rattle.sets.specs.Bits.{bit}
 use Rattle.matcher.proofs.moves.accepts.Given as goal
 
 abbrev pub invariant-loop-t : goal.invariant-loop-t
-invariant-loop-t l = record {
-  in_range : l.t ≤ l.states;
-  seen : l.any ≡ some_below l.t (λ k. bit l.current k && eqb (get_or l.accepting k 0) 1);
-}
-
-abbrev pub decreases-loop-t : goal.decreases-loop-t
-decreases-loop-t l = l.states - l.t
+invariant-loop-t l = l.any ≡ some_below l.t (λ k. bit l.current k && eqb (get_or l.automaton.accepting.now k 0) 1)

@@ -1,79 +1,66 @@
--- `expression`: an operand and the stars after it. `operand`: `1`, a letter, or two expressions with their sign in parentheses.
-use Rattle.std.proofs.Common.{rules, arith}
-use Rattle.theory.specs.Table.{table}
-use Rattle.reader.specs.Found.{begins}
+-- `operand`: `1`, a letter, or two expressions with their sign in parentheses.
+use Rattle.std.proofs.Common.{ℕ, refl, arith}
+use Rattle.theory.specs.declared.refusal.Cause.TheVariants.{TooDeep}
 use Rattle.columns.proofs.ByteAt.{step_end, step_byte}
-use Rattle.reader.proofs.Answers.{end_answers, leaf_refused, leaf_made, after_positive}
-use Rattle.reader.proofs.Pair.{inside, deep_answers, left, left_refused, signed_on, signed_kind, sign_refused, right_refused, pair_answers}
+use Rattle.columns.specs.Table.{lent_table}
+use Rattle.reader.specs.Found.{begins}
+use Rattle.reader.proofs.Answers.{end_answers, leaf_refused, leaf_made}
+use Rattle.reader.proofs.Pair.{Left, inside, deep_answers, left, left_refused, signed_on, sign_refused, right_refused, pair_answers}
 use Rattle.reader.proofs.rules.+expression_operand.Goals as goal
+use Rattle.reader.proofs.rules.+expression_operand.Goals.{operand-In-Ok}
 
--- ---- `expression`
+pub operand-returns-in_default-clause-answered : goal.operand-returns-in_default-clause-answered
+operand-returns-in_default-clause-answered t c =
+    let s = begins c.args.at (lent_table c.args.table.now) in
+    end_answers c.args.at.room c.args.text.now s c.not_grammar.result c.not_grammar.ensures (step_end _ _ c.step.ensures c.in_default.is)
 
-pub expression-stars-requires : goal.expression-stars-requires
-expression-stars-requires t c = let x = c.in-Value.ensures in (search rules, after_positive _ _ x, x.fits)
+pub operand-returns-in_default-leaf-clause-answered : goal.operand-returns-in_default-leaf-clause-answered
+operand-returns-in_default-leaf-clause-answered t c =
+    let s = begins c.args.at (lent_table c.args.table.now) in
+    leaf_refused _ _ s c.requires (step_byte _ _ c.step.ensures c.in-Some.is) c.not_grammar-in_default-leaf.result
+    c.not_grammar-in_default-leaf.ensures c.if-byte-ne40.true c.in_default-leaf.ensures
 
--- ---- `operand`
+pub operand-returns-then-byte-ne40-clause-answered : goal.operand-returns-then-byte-ne40-clause-answered
+operand-returns-then-byte-ne40-clause-answered t c =
+    let leaf = c.in-Some-leaf.ensures in
+    leaf_made _ _ _ c.requires (step_byte _ _ c.step.ensures c.in-Some.is) _ leaf.0 leaf.1 (leaf.2 c.args.at.made) c.entry.result
+    (lent_table c.entry.new.table) c.entry.ensures.entry
 
-pub operand-returns-in_default : goal.operand-returns-in_default
-operand-returns-in_default t c =
-    let s = begins c.args.at (table c.args.kind.now c.args.left.now c.args.right.now) in
-    end_answers c.args.at.room c.args.text.now s (step_end _ _ c.step.ensures c.in_default.is)
+pub operand-returns-then-at-eq-OPEN-clause-answered : goal.operand-returns-then-at-eq-OPEN-clause-answered
+operand-returns-then-at-eq-OPEN-clause-answered t c =
+    deep_answers c.requires (step_byte _ _ c.step.ensures c.in-Some.is) c.if-byte-ne40.false
+    (record { cause = TooDeep; place = c.args.at.cursor.at }) refl (omega arith)
 
-pub operand-returns-in_default-leaf : goal.operand-returns-in_default-leaf
-operand-returns-in_default-leaf t c =
-    leaf_refused _ _ _ c.requires (step_byte _ _ c.step.ensures c.in-Byte.is) c.if-byte-ne40.true c.in_default-leaf.ensures
+pub operand-returns-in_default-x-clause-answered : goal.operand-returns-in_default-x-clause-answered
+operand-returns-in_default-x-clause-answered t c =
+    let byte = step_byte c.args.text.now c.args.at.cursor.at c.step.ensures c.in-Some.is in
+    left_refused (inside c.requires byte c.if-byte-ne40.false (omega arith)) (lent_table c.expression-x.new.table) c.expression-x.result
+    c.in_default-x.is c.expression-x.ensures.answered
 
-pub operand-returns-then-byte-ne40 : goal.operand-returns-then-byte-ne40
-operand-returns-then-byte-ne40 t c =
-    let leaf = c.in-Of.ensures in
-    let made = c.entry.new in
-    leaf_made _ _ _ c.requires (step_byte _ _ c.step.ensures c.in-Byte.is) _ leaf.0 leaf.1 (leaf.2 c.args.at.made) c.entry.result
-    (table made.kind made.left made.right) c.entry.ensures
+-- The left expression, read before the sign.
+left_read : (t : ℕ) (c : operand-In-Ok t)
+    → Left c.args.at.room c.args.text.now (begins c.args.at (lent_table c.args.table.now)) c.in-Ok.cursor.at c.in-Ok.first
+    (lent_table c.expression-x.new.table)
+left_read t c =
+    let byte = step_byte c.args.text.now c.args.at.cursor.at c.step.ensures c.in-Some.is in
+    left (inside c.requires byte c.if-byte-ne40.false (omega arith)) c.in-Ok.ensures.answered c.in-Ok.ensures.unstarred
 
-pub operand-returns-then-depth-eq-OPEN : goal.operand-returns-then-depth-eq-OPEN
-operand-returns-then-depth-eq-OPEN t c =
-    deep_answers c.requires (step_byte _ _ c.step.ensures c.in-Byte.is) c.if-byte-ne40.false (omega arith)
+pub operand-returns-in-Err-clause-answered : goal.operand-returns-in-Err-clause-answered
+operand-returns-in-Err-clause-answered t c =
+    sign_refused (left_read t (goal.at.operand-returns-in-Err-clause-answered t c).In-Ok) c.in-Err.refusal
+    (lent_table c.expression-x.new.table) c.in-Err.ensures
 
-pub operand-returns-in_default-x : goal.operand-returns-in_default-x
-operand-returns-in_default-x t c =
-    let byte = step_byte c.args.text.now c.args.at.cursor.at c.step.ensures c.in-Byte.is in
-    let made = c.expression-x.new in
-    left_refused (inside c.requires byte c.if-byte-ne40.false (omega arith)) (table made.kind made.left made.right) c.expression-x.result
-    c.in_default-x.is c.expression-x.ensures.0
+pub operand-returns-in_default-y-clause-answered : goal.operand-returns-in_default-y-clause-answered
+operand-returns-in_default-y-clause-answered t c =
+    let g = c.in-Ok-sign.read.0 in
+    let x = left_read t (goal.at.operand-returns-in_default-y-clause-answered t c).In-Ok in
+    right_refused g (signed_on x c.in-Ok-sign.read c.in-Ok-sign.ensures) (lent_table c.expression-y.new.table) c.expression-y.result
+    c.in_default-y.is c.expression-y.ensures.answered
 
-pub operand-returns-in_default-sign : goal.operand-returns-in_default-sign
-operand-returns-in_default-sign t c =
-    let byte = step_byte c.args.text.now c.args.at.cursor.at c.step.ensures c.in-Byte.is in
-    let x = c.in-Value.ensures in
-    let made = c.expression-x.new in
-    sign_refused (left (inside c.requires byte c.if-byte-ne40.false (omega arith)) x.0 x.1) (table made.kind made.left made.right)
-    c.sign-sign.result c.in_default-sign.is c.sign-sign.ensures
-
-pub operand-returns-in_default-y : goal.operand-returns-in_default-y
-operand-returns-in_default-y t c =
-    let byte = step_byte c.args.text.now c.args.at.cursor.at c.step.ensures c.in-Byte.is in
-    let x = c.in-Value.ensures in
-    let signed = signed_on (left (inside c.requires byte c.if-byte-ne40.false (omega arith)) x.0 x.1) c.in-Value-sign.ensures in
-    let made = c.expression-y.new in
-    right_refused signed (table made.kind made.left made.right) c.expression-y.result c.in_default-y.is c.expression-y.ensures.0
-
-pub operand-overflow_cast-row : goal.operand-overflow_cast-row
-operand-overflow_cast-row t c =
-    let byte = step_byte c.args.text.now c.args.at.cursor.at c.step.ensures c.in-Byte.is in
-    let x = c.in-Value.ensures in
-    omega (arith, signed_kind (signed_on (left (inside c.requires byte c.if-byte-ne40.false (omega arith)) x.0 x.1) c.in-Value-sign.ensures))
-
-pub operand-overflow_sub-row : goal.operand-overflow_sub-row
-operand-overflow_sub-row t c = omega (arith, after_positive _ _ c.in-Value.ensures.0, after_positive _ _ c.in-Value-y.ensures.0)
-
-pub operand-overflow_sub-row-2 : goal.operand-overflow_sub-row-2
-operand-overflow_sub-row-2 t c = omega (arith, after_positive _ _ c.in-Value.ensures.0, after_positive _ _ c.in-Value-y.ensures.0)
-
-pub operand-returns : goal.operand-returns
-operand-returns t c =
-    let byte = step_byte c.args.text.now c.args.at.cursor.at c.step.ensures c.in-Byte.is in
-    let x = c.in-Value.ensures in
-    let y = c.in-Value-y.ensures in
-    let signed = signed_on (left (inside c.requires byte c.if-byte-ne40.false (omega arith)) x.0 x.1) c.in-Value-sign.ensures in
-    let made = c.close.new in
-    pair_answers signed y.0 y.1 c.close.result (table made.kind made.left made.right) c.close.ensures
+pub operand-returns-clause-answered : goal.operand-returns-clause-answered
+operand-returns-clause-answered t c =
+    let g = c.in-Ok-sign.read.0 in
+    let x = left_read t (goal.at.operand-returns-clause-answered t c).In-Ok in
+    let y = c.in-Ok-y.ensures in
+    pair_answers g (signed_on x c.in-Ok-sign.read c.in-Ok-sign.ensures) y.answered y.unstarred c.number.result c.number.ensures c.close.result
+    (lent_table c.close.new.table) c.close.ensures.close

@@ -1,0 +1,23 @@
+// What may fail in a program that reads and writes.
+
+ghost use Rattle.lines.specs.Output.{told_length, Wrote};
+
+use crate::output;
+
+#[derive(Clone, Copy)]
+pub enum Failure {
+    Read,
+    Write,
+}
+
+impl Failure {
+    // The programs set no exit status: a read or a write that fails is told on standard error.
+    pub fn tell(self) -> Result<usize, Failure>
+        ensures { Wrote (told_length self) result }
+    {
+        match self {
+            Failure::Read => output::hand_over(output::STDERR, b"gumpaleri 0.4.0: read failed\n"),
+            Failure::Write => output::hand_over(output::STDERR, b"gumpaleri 0.4.0: write failed\n"),
+        }
+    }
+}
