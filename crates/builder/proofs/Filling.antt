@@ -1,7 +1,7 @@
 -- The turns of `fill`, over the columns in the builder's hands. Leans on `Walking` and `Turning`.
-use Prim.Native.Nat.{ℕ, ◌+◌, ◌-◌, ◌≤◌, ◌<◌}
+use Prim.Native.Nat.{ℕ, ◌+◌, ◌-◌, ◌<◌}
 use native.Mathlib.Omega.{arith}
-use mathlib.Core.Path.{◌≡◌, refl, sym, ap, ◌∙◌, subst}
+use mathlib.Core.Path.{◌≡◌, refl, sym, ◌∙◌, subst}
 use mathlib.Core.Bool.{true, false, true≢false}
 use mathlib.Core.List.{List}
 use lib.ListN.{get_or}
@@ -12,13 +12,13 @@ use Rattle.derive.specs.Rows.{SameRows, Fitted, rows_table}
 use Rattle.derive.specs.Walk.{RowSteps, RowPlace}
 use Rattle.derive.specs.declared.rows.Rows.{Rows}
 use Rattle.derive.specs.declared.rows.NoRoom.{NoRoom}
-use Rattle.theory.specs.Meetings.{meetings}
+use Rattle.theory.specs.Build.{Lent}
 use Rattle.builder.specs.declared.letters.Letters.{Letters}
 use Rattle.builder.specs.declared.states.States.{States}
 use Rattle.builder.specs.declared.arcs.Arcs.{Arcs}
 use Rattle.builder.specs.Letters.{IsNext, IsTurn}
 use Rattle.builder.specs.Columns.{Counts, held, used_in, rooms_in, SameStates, SameArcs}
-use Rattle.builder.specs.Progress.{Progress, Roomy, Exceeds, Goes, Ready, Meets, Met, Knows, Started, Reaches, root}
+use Rattle.builder.specs.Progress.{Roomy, Exceeds, Ready, Meets, Met, Knows, Started, Reaches, root}
 use Rattle.builder.proofs.Walking.{AtMember, AtLetter, member_short, found_ready, found_meets, member_full, member_next, member_less, member_end}
 use Rattle.builder.proofs.Turning.{turns_left, started, next_letter, none_met, all_met, turned, turned_less}
 
@@ -80,21 +80,24 @@ module _ {r₀ : Rows} {s₀ : States} {a₀ : Arcs} {i a e : ℕ} {after : Opti
   pub turn_place : (e < r.used) × RowPlace (rows_table r) r.used a e after
   turn_place = (m.member.row_in, m.member.standing)
 
-  reaches_not : Exceeds (root (held r₀ s₀ a₀)) (rooms_in r s c) → (w : Result Unit NoRoom) → IsErr w → {k : Counts} {x : _}
+  reaches_not : Exceeds (root (held r₀ s₀ a₀)) (rooms_in r s c) → (w : Result Unit NoRoom) → IsErr w → (k : Counts) (x : Lent)
       → Reaches (root (held r₀ s₀ a₀)) (rooms_in r₀ s₀ a₀) w k x
-  reaches_not q (Ok u) no_ok = let z : false ≡ true = no_ok in absurd (true≢false (sym z))
-  reaches_not q (Err x) is_err =
+  reaches_not q (Ok u) no_ok _ _ = let z : false ≡ true = no_ok in absurd (true≢false (sym z))
+  reaches_not q (Err x) is_err _ _ =
       record { goes = subst (Exceeds (root (held r₀ s₀ a₀))) (sym (rooms_same m.rows m.states m.arcs)) q }
 
   module _ {r' : Rows} (same : SameRows r r') where
     pub turn_short : {x : NoRoom} → RowSteps (rows_table r) r.used r.room a e after (Err x) (rows_table r') r'.used → (w : Result Unit NoRoom) → IsErr w
-        → {k : Counts} {y : _} → Reaches (root (held r₀ s₀ a₀)) (rooms_in r₀ s₀ a₀) w k y
+        → (k : Counts) (y : Lent) → Reaches (root (held r₀ s₀ a₀)) (rooms_in r₀ s₀ a₀) w k y
     turn_short g = reaches_not (member_short m.member g.outcome)
 
     now : rooms_in r s c ≡ rooms_in r' s c
     now = rooms_same {s = s} {s' = s} {a = c} {a' = c} same states_still arcs_still
 
-    module _ {row : ℕ} (g : RowSteps (rows_table r) r.used r.room a e after (Ok (Some row)) (rows_table r') r'.used) where
+    module _ {x : Option ℕ} (found : RowSteps (rows_table r) r.used r.room a e after (Ok x) (rows_table r') r'.used) {row : ℕ} (is : x ≡ Some row) where
+      g : RowSteps (rows_table r) r.used r.room a e after (Ok (Some row)) (rows_table r') r'.used
+      g = subst (λ y. RowSteps (rows_table r) r.used r.room a e after (Ok y) (rows_table r') r'.used) is found
+
       pub turn_ready : Ready (held r' s c) (rooms_in r' s c) (used_in r' s c)
       turn_ready = subst (λ q. Ready (held r' s c) q (used_in r' s c)) now (found_ready m.member same.kind.length g)
 
@@ -108,7 +111,7 @@ module _ {r₀ : Rows} {s₀ : States} {a₀ : Arcs} {i a e : ℕ} {after : Opti
 
       pub turn_full : (s' : States) (c' : Arcs) {x : NoRoom}
           → Met (held r' s c) (used_in r' s c) (rooms_in r' s c) i a row (Err x) (used_in r' s' c') (held r' s' c') → (w : Result Unit NoRoom) → IsErr w
-          → {k : Counts} {y : _} → Reaches (root (held r₀ s₀ a₀)) (rooms_in r₀ s₀ a₀) w k y
+          → (k : Counts) (y : Lent) → Reaches (root (held r₀ s₀ a₀)) (rooms_in r₀ s₀ a₀) w k y
       turn_full s' c' met = reaches_not (member_full m.member same.kind.length g (as_before s' c' met))
 
       module _ (s' : States) (c' : Arcs) (states : SameStates s s') (arcs : SameArcs c c') {u : Unit}
@@ -129,10 +132,13 @@ module _ {r₀ : Rows} {s₀ : States} {a₀ : Arcs} {i a e : ℕ} {after : Opti
             let less : c.room - c'.used < c.room - c.used = member_less m.member same.kind.length g (held r' s' c') (as_before s' c' met) in
             omega (arith, arcs.room)
 
-    module _ (g : RowSteps (rows_table r) r.used r.room a e after (Ok None) (rows_table r') r'.used) where
+    module _ {x : Option ℕ} (found : RowSteps (rows_table r) r.used r.room a e after (Ok x) (rows_table r') r'.used) (is : x ≡ None) where
+      over : RowSteps (rows_table r) r.used r.room a e after (Ok None) (rows_table r') r'.used
+      over = subst (λ y. RowSteps (rows_table r) r.used r.room a e after (Ok y) (rows_table r') r'.used) is found
+
       pub turn_ended : AtLetter (root (held r₀ s₀ a₀)) i a (rooms_in r' s c) (held r' s c) (used_in r' s c)
       turn_ended =
-          subst (λ q. AtLetter (root (held r₀ s₀ a₀)) i a q (held r' s c) (used_in r' s c)) now (member_end m.member same.kind.length g)
+          subst (λ q. AtLetter (root (held r₀ s₀ a₀)) i a q (held r' s c) (used_in r' s c)) now (member_end m.member same.kind.length over)
 
       module _ (letters : Letters) (knows : Knows letters (root (held r₀ s₀ a₀))) where
         pub turn_last : (first : ℕ) → IsTurn letters first i a s.used None → {u : Unit}

@@ -9,3 +9,4 @@ pub mod Turning
 pub mod Finishing
 pub mod Owed
 pub mod Filling
+pub mod Handing

@@ -3,21 +3,21 @@ use Prim.Native.Nat.{ℕ, ◌≤◌, min}
 use native.Mathlib.Nat.{min-le_left, min-le_right}
 use native.Mathlib.Omega.{arith}
 use mathlib.Core.Path.{◌≡◌, refl, sym, ap, ◌∙◌, subst}
-use mathlib.Core.Bool.{Bool, true, false, cond}
+use mathlib.Core.Bool.{Bool, true, false, cond, true≢false}
 use mathlib.Core.Logic.{inl, inr}
 use borrow.Author.Tests.{ne_eqb}
 use Rattle.theory.specs.Refusal.{Refusal, refusal, success, columns_differ, room_small}
 use Rattle.theory.specs.Column.{zeros}
 use Rattle.theory.specs.Table.{Table, tree, table_refusal}
 use Rattle.theory.specs.Build as Build
-use Rattle.theory.specs.Build.{Lent, Cleared, even, over_room, build_refusal, expression_room, state_room, arc_room, OverRoom, of_expressions, of_states, of_arcs}
+use Rattle.theory.specs.Build.{Lent, EvenLent, Cleared, even, over_room, build_refusal, expression_room, state_room, arc_room, OverRoom, of_expressions, of_states, of_arcs}
 use Rattle.theory.specs.Limit.{most_expressions, most_states, most_arcs}
 use Rattle.theory.specs.Meetings.{meetings}
 use Rattle.theory.proofs.Answers.{counts_built, counts_refused}
 use Rattle.theory.proofs.Tests.{false_of}
 use Rattle.theory.proofs.BuilderRefusal.{even_iff, over_iff, refusal_by}
-use Rattle.std.specs.Prelude.{Result, Ok, Err}
-use Rattle.theory.specs.Stated.{stated, refusal_in}
+use Rattle.std.specs.Prelude.{Ok, Err, IsTrue, ◌↔◌}
+use Rattle.theory.specs.Stated.{stated}
 use Rattle.theory.specs.declared.refusal.Refusal.{Refusal as CodeRefusal}
 use Rattle.theory.specs.declared.refusal.Cause.TheVariants.{RoomSmall}
 use Rattle.theory.proofs.Stated.{number_some}
@@ -64,6 +64,15 @@ cleared_blank {c} {c'} e h =
 -- The refusals that come before the rooms'.
 abbrev before_room : Table → Lent → Refusal
 before_room g c = cond (even c) (table_refusal g) (refusal columns_differ 0)
+
+even_is : (c : Lent) (b : Bool) → IsTrue b ↔ EvenLent c → b ≡ even c
+even_is c true h = sym ((even_iff c).1 (h.0 refl))
+even_is c false h = sym (false_of (even c) (λ e. true≢false (sym (h.1 ((even_iff c).0 e)))))
+
+-- The same, by the test of the lent columns.
+pub as_tested : (g : Table) (c : Lent) {b : Bool} → IsTrue b ↔ EvenLent c → {r : Refusal} → r ≡ cond b (table_refusal g) (refusal columns_differ 0)
+    → r ≡ before_room g c
+as_tested g c {b} h e = e ∙ ap (λ (y : Bool). cond y (table_refusal g) (refusal columns_differ 0)) (even_is c b h)
 
 module _ {g : Table} {c c' : Lent} where
   refuses : (r : Refusal) → build_refusal g c ≡ r → (r.number ≡ 0 → ⊥) → Cleared c c'

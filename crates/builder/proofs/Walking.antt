@@ -22,7 +22,7 @@ use Rattle.theory.proofs.Meetings.{so_far_begins, before_letter}
 use Rattle.theory.proofs.Nearing.{starts_before, starts_member, states_begin, parts_needed}
 use Rattle.derive.specs.Rows.{Grown, Short}
 use Rattle.derive.specs.Walk.{PartOf, to_come, InList, Steps, first_of, behind}
-use Rattle.std.specs.Prelude.{Option, Some, None, Result, Ok, Err}
+use Rattle.std.specs.Prelude.{Option, Some, None, Ok, Err}
 use Rattle.derive.specs.declared.rows.NoRoom.{NoRoom}
 use Rattle.derive.proofs.Coming.{short_exceeds}
 use Rattle.derive.proofs.Growing.{grown_tree}

@@ -7,11 +7,11 @@ mod letters;
 mod making;
 mod states;
 
-ghost use Rattle.std.specs.Prelude.{◌≡◌, cond};
+ghost use Rattle.std.specs.Prelude.{◌≡◌, ◌↔◌, IsTrue, cond};
 ghost use Rattle.theory.specs.Refusal.{refusal, columns_differ};
 ghost use Rattle.theory.specs.Stated.{refusal_in};
 ghost use Rattle.theory.specs.Table.{table_refusal};
-ghost use Rattle.theory.specs.Build.{Cleared, Built};
+ghost use Rattle.theory.specs.Build.{EvenLent, Cleared, Built};
 ghost use Rattle.columns.specs.Table.{read_table, SameTable};
 ghost use Rattle.columns.specs.States.{SameStates};
 ghost use Rattle.columns.specs.Arcs.{SameArcs};
@@ -43,7 +43,7 @@ pub fn build(
     ensures built { Built (read_table given.entry) (lent_all rows.old states.old arcs.old) (answer result)
         (lent_all rows.new states.new arcs.new) }
 {
-    let even = rows.view().is_even() & states.is_even() & arcs.view().is_even();
+    let even = are_even(rows, states, arcs);
     clear(rows, states, arcs);
     checked(even, given)?;
     let Ok(counts) = making::make(given, rows, states, arcs) else {
@@ -54,6 +54,13 @@ pub fn build(
         });
     };
     Ok(counts)
+}
+
+// 01, refusal 1: "columns of one table differ in length", here of the three lent tables.
+fn are_even(rows: &TableMut<'_>, states: &StatesMut<'_>, arcs: &ArcsMut<'_>) -> bool
+    ensures { IsTrue result ↔ EvenLent (lent_all rows.now states.now arcs.now) }
+{
+    rows.view().is_even() & states.is_even() & arcs.view().is_even()
 }
 
 // 01: "Builder: 1, 2, 3, then entries from 0 upward, each checked for 4, 5, 6, 7; then 8; then 9." All but 9, which is told by building.
