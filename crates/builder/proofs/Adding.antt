@@ -24,8 +24,9 @@ use Rattle.theory.proofs.Column.{field_more}
 use Rattle.theory.proofs.Meetings.{so_far_known, so_far_new}
 use Rattle.theory.proofs.Nearing.{state_number, states_enough, arcs_needed}
 use Rattle.derive.proofs.Growing.{rows_differ}
-use Rattle.builder.specs.Progress.{Progress, Exceeds, FirstEqual}
-use Rattle.builder.specs.declared.arcs.Counts.{Counts}
+use Rattle.builder.specs.Progress.{Progress, Exceeds}
+use Rattle.builder.specs.Columns.{Counts, FirstEqual}
+use Rattle.std.specs.Prelude.{None}
 
 -- ---- The states' rows
 
@@ -80,11 +81,11 @@ module _ {e : Expression} {done : List Meeting} {c : Lent} {k : Counts} (p : Pro
   found_state j l q = sym (p.named.named j (subst (λ (n : ℕ). j < n) p.state_count l)) ∙ ap (tree_at c.rows) q
 
   -- A row that no state so far has is new.
-  not_found : {j : ℕ} → FirstEqual c.expression k.states r j → k.states ≤ j → Memᴰ (tree_at c.rows r) (so_far e done) → ⊥
-  not_found {j} f all h =
+  not_found : FirstEqual c.expression k.states r None → Memᴰ (tree_at c.rows r) (so_far e done) → ⊥
+  not_found f h =
       let n = place same (tree_at c.rows r) (so_far e done) in
       let l = place_below same (tree_at c.rows r) (so_far e done) h in
-      f.before n (omega (arith, p.state_count))
+      f n (omega (arith, p.state_count))
       (rows_differ p.rows (p.named.within n l) row_in (p.named.named n l ∙ at_place same (tree_at c.rows r) (so_far e done) ∅ h))
 
   -- The arc, once the state that it leads to stands.
@@ -124,13 +125,13 @@ module _ {e : Expression} {done : List Meeting} {c : Lent} {k : Counts} (p : Pro
       (sym (state_number (starts_less done _ s) j ∅ below) ∙ ap (λ y. place same y (states e)) is) space
 
   -- A new state, the next number.
-  pub new_added : (b : ℕ) {j : ℕ} → FirstEqual c.expression k.states r j → k.states ≤ j → b ≡ cond (empty_word (tree_at c.rows r)) 1 0
+  pub new_added : (b : ℕ) → FirstEqual c.expression k.states r None → b ≡ cond (empty_word (tree_at c.rows r)) 1 0
       → k.states < length c.expression → k.states < length c.accepting → Spans c.arcs (suc k.arcs)
       → Progress e (done ++ (meeting i a (tree_at c.rows r) ∷ []))
       (lent c.rows (set c.expression k.states r) (set c.accepting k.states b) (with_arc c.arcs k.arcs (arc i a k.states)))
       (record { rows = k.rows; states = k.states + 1; arcs = k.arcs + 1 })
-  new_added b f all flag lx la space =
-      let grows = so_far_new e done (meeting i a (tree_at c.rows r)) (not_found f all) in
+  new_added b f flag lx la space =
+      let grows = so_far_new e done (meeting i a (tree_at c.rows r)) (not_found f) in
       let last : get_or met_so_far k.states ∅ ≡ tree_at c.rows r =
       ap (λ ss. get_or ss k.states ∅) grows ∙ get_or_at (so_far e done) (tree_at c.rows r) [] ∅ k.states (sym p.state_count) in
       let size : length met_so_far ≡ k.states + 1 =
@@ -143,9 +144,9 @@ module _ {e : Expression} {done : List Meeting} {c : Lent} {k : Counts} (p : Pro
       (sym (state_number s k.states ∅ (omega (arith, size))) ∙ ap (λ y. place same y (states e)) last) space
 
   -- No room for it.
-  pub new_exceeds : (rooms : Counts) {j : ℕ} → FirstEqual c.expression k.states r j → k.states ≤ j → rooms.states ≤ k.states → Exceeds e rooms
-  new_exceeds rooms f all full =
-      let grows = so_far_new e done (meeting i a (tree_at c.rows r)) (not_found f all) in
+  pub new_exceeds : (rooms : Counts) → FirstEqual c.expression k.states r None → rooms.states ≤ k.states → Exceeds e rooms
+  new_exceeds rooms f full =
+      let grows = so_far_new e done (meeting i a (tree_at c.rows r)) (not_found f) in
       inr (inl (omega (arith, states_enough s, ap length grows, length-append (so_far e done) (tree_at c.rows r ∷ []), p.state_count)))
 
   pub arc_exceeds : (rooms : Counts) → rooms.arcs ≤ k.arcs → Exceeds e rooms

@@ -25,7 +25,7 @@ use Rattle.theory.proofs.Needs.{counted}
 use Rattle.theory.proofs.Meetings.{states_met, arcs_met}
 use Rattle.derive.specs.Rows.{Rows}
 use Rattle.builder.specs.Progress.{Progress}
-use Rattle.builder.specs.declared.arcs.Counts.{Counts}
+use Rattle.builder.specs.Columns.{Counts}
 use Rattle.builder.proofs.Lengths.{SameLengths, filled_same}
 
 -- ---- Every part of a row's tree is a row's tree

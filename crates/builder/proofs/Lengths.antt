@@ -5,9 +5,15 @@ use Prim.Native.Nat.{ℕ}
 use lib.ListN.{length, length-replicate, length-set}
 use Rattle.theory.specs.Column.{zeros, filled}
 use Rattle.theory.specs.Automaton.{Arc}
-use Rattle.theory.specs.Table.{Table}
 use Rattle.theory.specs.Arcs.{ArcColumns, arc_columns, Spans, with_arc, no_arcs, filled_arcs}
-use Rattle.theory.specs.Build.{Lent, lent, Cleared}
+use Rattle.theory.specs.Build.{Lent, Cleared}
+use Rattle.columns.specs.Table.{SameTable}
+use Rattle.columns.specs.States.{SameStates}
+use Rattle.columns.specs.Arcs as lent
+use Rattle.columns.specs.Lent.{lent_all}
+use Rattle.columns.specs.declared.table.TableMut.{TableMut}
+use Rattle.columns.specs.declared.states.StatesMut.{StatesMut}
+use Rattle.columns.specs.declared.arcs.ArcsMut.{ArcsMut}
 
 -- ---- The arc columns
 
@@ -51,9 +57,6 @@ pub record SameLengths (c₀ c : Lent) : Type 0 where
   pub accepting : length c.accepting ≡ length c₀.accepting
   pub arcs : SameArcs c₀.arcs c.arcs
 
-pub lengths_none : (c : Lent) → SameLengths c c
-lengths_none c = record { kind = refl; left = refl; right = refl; expression = refl; accepting = refl; arcs = same_arcs }
-
 pub lengths_after : {c c₁ c' : Lent} → SameLengths c c₁ → SameLengths c₁ c' → SameLengths c c'
 lengths_after h k =
     record {
@@ -65,15 +68,18 @@ lengths_after h k =
       arcs = arcs_after h.arcs k.arcs;
     }
 
--- Rows came.
-pub lengths_rows : {c₀ c : Lent} {t : Table} → SameLengths c₀ c → length t.kind ≡ length c.rows.kind → length t.left ≡ length c.rows.left
-    → length t.right ≡ length c.rows.right → SameLengths c₀ (lent t c.expression c.accepting c.arcs)
-lengths_rows h k l r = lengths_after h (record { kind = k; left = l; right = r; expression = refl; accepting = refl; arcs = same_arcs })
-
--- A state or an arc came.
-pub lengths_automaton : {c₀ c : Lent} {expression accepting : List ℕ} {a : ArcColumns} → SameLengths c₀ c → length expression ≡ length c.expression
-    → length accepting ≡ length c.accepting → SameArcs c.arcs a → SameLengths c₀ (lent c.rows expression accepting a)
-lengths_automaton h x a z = lengths_after h (record { kind = refl; left = refl; right = refl; expression = x; accepting = a; arcs = z })
+-- Columns that are those that were lent.
+pub lengths_of : {t t' : TableMut} {s s' : StatesMut} {a a' : ArcsMut} → SameTable t t' → SameStates s s' → lent.SameArcs a a'
+    → SameLengths (lent_all t s a) (lent_all t' s' a')
+lengths_of h k l =
+    record {
+      kind = h.kind.length;
+      left = h.left.length;
+      right = h.right.length;
+      expression = k.expression.length;
+      accepting = k.accepting.length;
+      arcs = record { from = l.from.length; letter = l.letter.length; to = l.to.length };
+    }
 
 -- ---- Cleared columns
 

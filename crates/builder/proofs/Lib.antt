@@ -1,5 +1,4 @@
 pub mod Lengths
-pub mod Told
 pub mod Marks
 pub mod Using
 pub mod Adding
@@ -9,3 +8,5 @@ pub mod Walking
 pub mod Turning
 pub mod Finishing
 pub mod Owed
+pub mod Filling
+pub mod Handing

@@ -1,11 +1,11 @@
 -- State 0: the literal empty word as row 0, the given expression after it.
-use Prim.Native.Nat.{ℕ, ◌-◌, ◌≤◌, ◌<◌}
+use Prim.Native.Nat.{ℕ, ◌+◌, ◌-◌, ◌≤◌, ◌<◌}
 use native.Mathlib.Numerals.{sub-one}
 use native.Mathlib.Nat.{le_refl, lt_of_lt_of_le, zero-lt-suc}
 use native.Mathlib.Omega.{arith}
 use mathlib.Core.Path.{◌≡◌, refl, sym, ap, ◌∙◌, subst}
 use mathlib.Core.Logic.{◌⊎◌, inl, inr, ⊎_elim}
-use mathlib.Core.Bool.{cond}
+use mathlib.Core.Bool.{Bool, true, false, cond, true≢false}
 use mathlib.Core.List.Memᴰ
 use mathlib.Core.List.{List, [], ◌∷◌, map, Memᴰ}
 use lib.ListN.{length, get_or, set, length-set}
@@ -25,32 +25,40 @@ use Rattle.theory.proofs.Nearing.{parts_needed, ε_needed}
 use Rattle.theory.specs.Meetings.{so_far}
 use Rattle.theory.specs.Arcs.{ArcColumns, arc_columns, no_arcs, filled_arcs}
 use Rattle.theory.proofs.Column.{get_or_zeros, zero_filled, column_more}
-use Rattle.derive.specs.Rows.{Rows, Short, SoundTo}
+use Rattle.std.specs.Prelude.{Result, Ok, Err, IsErr}
+use Rattle.theory.specs.Kind
+use Rattle.derive.specs.Rows.{Rows, Held, Short, SoundTo}
+use Rattle.derive.specs.declared.rows.NoRoom.{NoRoom}
 use Rattle.derive.proofs.Coming.{short_exceeds}
-use Rattle.derive.proofs.Taking.{Took}
-use Rattle.builder.specs.Progress.{Progress, Exceeds, Begins, Blank, Standing, Started}
-use Rattle.builder.specs.declared.arcs.Counts.{Counts}
+use Rattle.builder.specs.Progress.{Progress, Exceeds, Begins, Begun, Blank, Standing, Started}
+use Rattle.builder.specs.Columns.{Counts, StateAdded}
 use Rattle.builder.proofs.Adding.{names_more}
 use Rattle.builder.proofs.Lengths.{SameLengths}
 
 zero_at : (column : List ℕ) (i : ℕ) → column ≡ zeros (length column) → get_or column i 0 ≡ 0
 zero_at column i e = ap (λ (c : List ℕ). get_or c i 0) e ∙ get_or_zeros (length column) i
 
+-- A need that exceeds its room, told.
+begun_not : (e : Expression) {rooms : Counts} → Exceeds e rooms → (w : Result Unit NoRoom) → IsErr w
+    → (n : Counts) (u : Table) (column flags : List ℕ) → Begun e rooms w n u column flags
+begun_not e q (Ok u) no_ok _ _ _ _ = let z : false ≡ true = no_ok in absurd (true≢false (sym z))
+begun_not e q (Err x) is_err _ _ _ _ = q
+
 -- The given expression is needed as a state.
 pub root_state : (e : Expression) → Memᴰ e (states e)
 root_state e = let b = states_first e in subst (Memᴰ e) (sym b.goes_on) (Memᴰ.head refl)
 
-module _ {rooms : Counts} {t : Table} {expression accepting : List ℕ} (h : Begins rooms t expression accepting) where
+module _ {rooms : Counts} {t : Table} {expression accepting : List ℕ} (h : Begins rooms t expression accepting) {k : ℕ} (is_ε : k ≡ Kind.empty_word) where
   abbrev pub with_ε : Table
-  with_ε = table (set t.kind 0 1) t.left t.right
+  with_ε = table (set t.kind 0 k) t.left t.right
 
   ε_row : 0 < length t.kind → row with_ε 0 ≡ entry 1 0 0
-  ε_row l = rw (get_or-set_same t.kind 0 1 0 l, zero_at t.left 0 h.left_zero, zero_at t.right 0 h.right_zero)
+  ε_row l = rw (get_or-set_same t.kind 0 k 0 l, zero_at t.left 0 h.left_zero, zero_at t.right 0 h.right_zero, is_ε) refl
 
   blank_row : (i : ℕ) → 1 ≤ i → row with_ε i ≡ entry 0 0 0
   blank_row i l =
       rw (
-        get_or-set_other t.kind 0 i 1 0 (λ e. omega arith),
+        get_or-set_other t.kind 0 i k 0 (λ e. omega arith),
         zero_at t.kind i h.kind_zero,
         zero_at t.left i h.left_zero,
         zero_at t.right i h.right_zero,
@@ -71,8 +79,8 @@ module _ {rooms : Counts} {t : Table} {expression accepting : List ℕ} (h : Beg
     unfolding trees
     first_rows =
         record {
-          left_length = h.left_length ∙ sym (length-set t.kind 0 1);
-          right_length = h.right_length ∙ sym (length-set t.kind 0 1);
+          left_length = h.left_length ∙ sym (length-set t.kind 0 k);
+          right_length = h.right_length ∙ sym (length-set t.kind 0 k);
           within = simp length-set (space);
           sound = λ i l. of_ε (ap (row with_ε) (only i l) ∙ ε_row space);
           once = (Memᴰ.not-nil, tt);
@@ -89,28 +97,37 @@ module _ {rooms : Counts} {t : Table} {expression accepting : List ℕ} (h : Beg
     all_needed e {z} = ⊎_elim (λ m. Memᴰ.cast (ε_only m) (ε_needed e)) (λ m. parts_needed e e (root_state e) z m)
 
     -- The tree taken over, x, is the given expression e.
-    pub start_short : (e x : Expression) → e ≡ x → {t' : Table} → Short with_ε 1 rooms.rows (λ z. Memᴰ z (parts x)) t' → Exceeds e rooms
-    start_short e x q s = subst (λ y. Exceeds y rooms) (sym q) (inl (short_exceeds s (expressions x) (λ z. all_needed x)))
+    pub start_short : (e x : Expression) → e ≡ x → {t' : Table} → Short with_ε 1 rooms.rows (λ z. Memᴰ z (parts x)) t' → (w : Result Unit NoRoom) → IsErr w
+        → (n : Counts) (u : Table) (column flags : List ℕ) → Begun e rooms w n u column flags
+    start_short e x q s w is_err = begun_not e (subst (λ y. Exceeds y rooms) (sym q) (inl (short_exceeds s (expressions x) (λ z. all_needed x)))) w is_err
 
-    pub start_stands : (e x : Expression) → e ≡ x → (r n b : ℕ) (t' : Table) → 0 < rooms.states → Took with_ε 1 rooms.rows x r t' n
-        → b ≡ cond (empty_word (tree_at t' r)) 1 0 → Standing e rooms (record { rows = n; states = 1; arcs = 0 }) t' (set expression 0 r) (set accepting 0 b)
-    start_stands e x q r n b t' room k flag =
-        subst (λ y. Standing y rooms (record { rows = n; states = 1; arcs = 0 }) t' (set expression 0 r) (set accepting 0 b)) (sym q)
+    pub start_stands : (e x : Expression) → e ≡ x → (r n j s : ℕ) (accepts : Bool) (t' : Table) (column flags : List ℕ) {used : ℕ} → used ≡ 0
+        → Held with_ε 1 rooms.rows (λ z. Memᴰ z (parts x)) (λ z. z ≡ x) r t' n → accepts ≡ empty_word (tree_at t' r)
+        → StateAdded rooms.states used expression accepting r (cond accepts 1 0) (Ok j) s column flags
+        → Standing e rooms (record { rows = n; states = s; arcs = 0 }) t' column flags
+    start_stands e x q r n j s accepts t' column flags none held is new =
+        let (room, ej, ex, ef, es) = new in
+        let flag : ℕ = cond accepts 1 0 in
+        subst (λ y. Standing y rooms (record { rows = n; states = s; arcs = 0 }) t' column flags) (sym q)
+        (subst (λ (m : ℕ). Standing x rooms (record { rows = n; states = m; arcs = 0 }) t' column flags) (sym (es ∙ ap (λ (m : ℕ). m + 1) none))
+        (subst (λ xs. Standing x rooms (record { rows = n; states = 1; arcs = 0 }) t' xs flags) (sym (ex ∙ ap (λ (m : ℕ). set expression m r) none))
+        (subst (λ xs. Standing x rooms (record { rows = n; states = 1; arcs = 0 }) t' (set expression 0 r) xs)
+        (sym (ef ∙ ap (λ (m : ℕ). set accepting m flag) none))
         (record {
-          rows = k.came.grown.rows;
-          needed = λ z m. all_needed x (k.came.each z m);
-          rows_fit = k.came.fits;
+          rows = held.came.grown.rows;
+          needed = λ z m. all_needed x (held.came.each z m);
+          rows_fit = held.came.fits;
           one_state = refl;
           no_arc = refl;
-          named = names_more expression [] 0 r x none refl (lt_of_lt_of_le room h.states_in) k.there k.is;
+          named = names_more expression [] 0 r x blank refl (omega (arith, room, none, h.states_in)) held.there held.is;
           flags =
-              column_more accepting [] 0 b (h.accepting_zero ∙ zero_filled (length accepting)) refl (lt_of_lt_of_le room h.accepting_in)
-              ∙ ap (λ (v : ℕ). filled (length (set accepting 0 b)) (v ∷ [])) (flag ∙ ap (λ y. cond (empty_word y) 1 0) k.is);
-          state_room = room;
-        })
+              column_more accepting [] 0 flag (h.accepting_zero ∙ zero_filled (length accepting)) refl (omega (arith, room, none, h.accepting_in))
+              ∙ ap (λ (v : ℕ). filled (length (set accepting 0 flag)) (v ∷ [])) (ap (λ (y : Bool). cond y 1 0) (is ∙ ap empty_word held.is));
+          state_room = omega (arith, room, none);
+        }))))
       where
-        none : Names t' n expression []
-        none = record { within = λ i l. absurd (omega arith); named = λ i l. absurd (omega arith); blank = λ i l. zero_at expression i h.expression_zero }
+        blank : Names t' n expression []
+        blank = record { within = λ i l. absurd (omega arith); named = λ i l. absurd (omega arith); blank = λ i l. zero_at expression i h.expression_zero }
 
 pub no_rows : (e : Expression) (rooms : Counts) → rooms.rows ≡ 0 → Exceeds e rooms
 no_rows e rooms q = inl (omega (arith, some (expressions e) (ε_needed e)))
@@ -119,8 +136,9 @@ no_rows e rooms q = inl (omega (arith, some (expressions e) (ε_needed e)))
     some [] m = absurd (Memᴰ.not-nil m)
     some (x ∷ xs) m = zero-lt-suc (length xs)
 
-pub no_states : (e : Expression) (rooms : Counts) → rooms.states ≡ 0 → Exceeds e rooms
-no_states e rooms q = inr (inl (omega (arith, states_some e)))
+pub no_states : (e : Expression) (rooms : Counts) → rooms.states ≤ 0 → (w : Result Unit NoRoom) → IsErr w
+    → (n : Counts) (u : Table) (column flags : List ℕ) → Begun e rooms w n u column flags
+no_states e rooms q w is_err = begun_not e (inr (inl (omega (arith, states_some e)))) w is_err
 
 -- The given table's rows, as the check has left them.
 pub given_sound : (g : Table) → (table_refusal g).number ≡ 0 → (i : ℕ) → i < size g → SoundTo g i

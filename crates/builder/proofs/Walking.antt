@@ -22,15 +22,13 @@ use Rattle.theory.proofs.Meetings.{so_far_begins, before_letter}
 use Rattle.theory.proofs.Nearing.{starts_before, starts_member, states_begin, parts_needed}
 use Rattle.derive.specs.Rows.{Grown, Short}
 use Rattle.derive.specs.Walk.{PartOf, to_come, InList, Steps, first_of, behind}
-use Rattle.derive.specs.declared.walk.Stepped.TheVariants.{Found, End}
-use Rattle.derive.specs.declared.walk.Place.{Place}
-use Rattle.derive.specs.declared.walk.Place.TheVariants.{Start, Behind}
+use Rattle.std.specs.Prelude.{Option, Some, None, Ok, Err}
+use Rattle.derive.specs.declared.rows.NoRoom.{NoRoom}
 use Rattle.derive.proofs.Coming.{short_exceeds}
 use Rattle.derive.proofs.Growing.{grown_tree}
 use Rattle.derive.proofs.Listing.{first_some, first_none, behind_second, behind_head}
 use Rattle.builder.specs.Progress.{Progress, Roomy, Exceeds, Ready, Meets, Met, met_so_far, next_met, root}
-use Rattle.builder.specs.declared.arcs.Counts.{Counts}
-use Rattle.builder.specs.declared.arcs.Went.TheVariants.{On, NoRoom}
+use Rattle.builder.specs.Columns.{Counts}
 use Rattle.builder.proofs.Adding.{starts_less}
 
 -- ---- The given expression, and where the meetings stand
@@ -102,7 +100,7 @@ abbrev met_at : Expression → ℕ → ℕ → List Expression → List Meeting
 met_at e i a met = before e i (a - 1) ++ map (meeting i a) met
 
 -- State i, the row r, is left by the letter a; the walk stands at `place`, and the members before it are met.
-pub record AtMember (e : Expression) (i a r : ℕ) (rooms : Counts) (place : Place) (c : Lent) (k : Counts) : Type 0 where
+pub record AtMember (e : Expression) (i a r : ℕ) (rooms : Counts) (place : Option ℕ) (c : Lent) (k : Counts) : Type 0 where
   pub met : List Expression
   pub rest : List Expression
   pub split : derivative a (get_or (states e) i ∅) ≡ met ++ rest
@@ -136,7 +134,7 @@ behind_split q xs zs once e =
 
 -- At the start of the list.
 pub member_first : {e : Expression} {i a : ℕ} {rooms : Counts} {c : Lent} {k : Counts} → Progress e (before e i (a - 1)) c k → Roomy c rooms k
-    → i < k.states → i < length (states e) → 1 ≤ a → a ≤ last_letter → AtMember e i a (get_or c.expression i 0) rooms Start c k
+    → i < k.states → i < length (states e) → 1 ≤ a → a ≤ last_letter → AtMember e i a (get_or c.expression i 0) rooms None c k
 member_first {e} {i} {a} {rooms} {c} {k} p o state within low high =
     let many : i < length (so_far e (before e i (a - 1))) = subst (λ (n : ℕ). i < n) p.state_count state in
     let b = states_begin (starts_before e i (a - 1) within (omega arith)) in
@@ -158,7 +156,7 @@ member_first {e} {i} {a} {rooms} {c} {k} p o state within low high =
       high = high;
     }
 
-module _ {e : Expression} {i a r : ℕ} {rooms : Counts} {place : Place} {c : Lent} {k : Counts} (m : AtMember e i a r rooms place c k) where
+module _ {e : Expression} {i a r : ℕ} {rooms : Counts} {place : Option ℕ} {c : Lent} {k : Counts} (m : AtMember e i a r rooms place c k) where
   letter_is : suc (a - 1) ≡ a
   letter_is = let l = m.low in omega arith
 
@@ -179,7 +177,7 @@ module _ {e : Expression} {i a r : ℕ} {rooms : Counts} {place : Place} {c : Le
 
   -- A row comes, or stands already, that is the next member.
   module _ {row n : ℕ} {t : Table} (same_length : length t.kind ≡ length c.rows.kind)
-      (s : Steps c.rows k.rows rooms.rows (derivative a (tree_at c.rows r)) place (Found row n) t) where
+      (s : Steps c.rows k.rows rooms.rows (derivative a (tree_at c.rows r)) place (Ok (Some row)) t n) where
     grown : Progress e (met_at e i a m.met) (with_rows c t) (with_count k n)
     grown = progress_grown m.progress s.outcome.came.grown (λ z h. all_needed z (s.outcome.came.each z h))
 
@@ -218,11 +216,11 @@ module _ {e : Expression} {i a r : ℕ} {rooms : Counts} {place : Place} {c : Le
         }
 
     -- There is no room for it.
-    pub member_full : {c' : Lent} → Met (with_rows c t) (with_count k n) rooms i a row NoRoom c' → Exceeds e rooms
+    pub member_full : {x : NoRoom} {k' : Counts} {c' : Lent} → Met (with_rows c t) (with_count k n) rooms i a row (Err x) k' c' → Exceeds e rooms
     member_full w = subst (λ y. Exceeds y rooms) (root_is grown) w.goes
 
     -- And it is met.
-    module _ {k' : Counts} (c' : Lent) (w : Met (with_rows c t) (with_count k n) rooms i a row (On k') (with_rows c' t)) where
+    module _ {u : Unit} {k' : Counts} (c' : Lent) (w : Met (with_rows c t) (with_count k n) rooms i a row (Ok u) k' (with_rows c' t)) where
       after : Progress e (met_at e i a m.met ++ (meeting i a (tree_at t row) ∷ [])) (with_rows c' t) k'
       after =
           subst (λ ms. Progress e ms (with_rows c' t) k') next_is
@@ -240,7 +238,7 @@ module _ {e : Expression} {i a r : ℕ} {rooms : Counts} {place : Place} {c : Le
       come : behind (tree_at t row) (derivative a (tree_at t r)) ≡ next_of.0
       come = behind_split (tree_at t row) m.met next_of.0 (subst NoRepeats list_still (derivative_no_repeats a (tree_at t r))) list_still
 
-      pub member_next : AtMember e i a r rooms (Behind row) (with_rows c' t) k'
+      pub member_next : AtMember e i a r rooms (Some row) (with_rows c' t) k'
       member_next =
           record {
             met = m.met ++ (tree_at t row ∷ []);
@@ -272,7 +270,7 @@ module _ {e : Expression} {i a r : ℕ} {rooms : Counts} {place : Place} {c : Le
 
   -- The list is at its end.
   pub member_end : {n : ℕ} {t : Table} → length t.kind ≡ length c.rows.kind
-      → Steps c.rows k.rows rooms.rows (derivative a (tree_at c.rows r)) place (End n) t
+      → Steps c.rows k.rows rooms.rows (derivative a (tree_at c.rows r)) place (Ok None) t n
       → AtLetter e i a rooms (with_rows c t) (with_count k n)
   member_end {n} {t} same_length s =
       let last : m.rest ≡ [] = first_none m.rest (ap first_of (sym m.coming) ∙ s.outcome.nothing_left) in

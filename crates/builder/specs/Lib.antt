@@ -1,3 +1,4 @@
 pub mod Answer
+pub mod Columns
 pub mod Letters
 pub mod Progress

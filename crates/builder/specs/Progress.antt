@@ -1,5 +1,5 @@
 -- How far the automaton of e stands in the lent columns: what is met so far, in 01's order, and what the columns then hold.
-use Rattle.std.specs.Prelude.{ℕ, ◌≤◌, ◌<◌, ◌≡◌, false, cond, ◌⊎◌, length, get_or, take}
+use Rattle.std.specs.Prelude.{ℕ, ◌≤◌, ◌<◌, ◌≡◌, false, cond, ◌⊎◌, length, get_or, take, Result, Ok, Err}
 use mathlib.Core.List.{List, [], ◌∷◌, ◌++◌, map, Memᴰ}
 use Rattle.theory.specs.Limit.{most_expressions, most_states, most_arcs, last_letter}
 use Rattle.theory.specs.Expression.{Expression, letters}
@@ -14,9 +14,9 @@ use Rattle.theory.specs.Build.{Lent, Names}
 use Rattle.derive.specs.Rows.{Rows}
 use Rattle.builder.specs.Letters.{used}
 use Rattle.builder.specs.declared.letters.Letters.{Letters}
-use Rattle.builder.specs.declared.arcs.Counts.{Counts}
-use Rattle.builder.specs.declared.arcs.Went.{Went}
-use Rattle.builder.specs.declared.arcs.Went.TheVariants.{On, NoRoom}
+use Rattle.derive.specs.declared.rows.NoRoom.{NoRoom}
+use Rattle.builder.specs.declared.Counts.{Counts as Told}
+use Rattle.builder.specs.Columns.{Counts}
 
 -- The columns hold what `done` gives of the automaton of e, and no row that the automaton does not need.
 pub record Progress (e : Expression) (done : List Meeting) (c : Lent) (k : Counts) : Type 0 where
@@ -47,19 +47,13 @@ Exceeds e rooms =
     (rooms.rows < length (expressions e)) ⊎ ((rooms.states < length (states e)) ⊎ (rooms.arcs < length (arcs e)))
 
 -- What a stretch of the building gives: the progress `done`, or a need that exceeds its room.
-abbrev pub Goes : Expression → List Meeting → Counts → Went → Lent → Type 0
-Goes e done rooms (On k) c = Progress e done c k × Roomy c rooms k
-Goes e done rooms NoRoom c = Exceeds e rooms
+abbrev pub Goes : Expression → List Meeting → Counts → Result Unit NoRoom → Counts → Lent → Type 0
+Goes e done rooms (Ok u) k c = Progress e done c k × Roomy c rooms k
+Goes e done rooms (Err r) k c = Exceeds e rooms
 
 -- State 0 is the given expression.
 abbrev pub root : Lent → Expression
 root c = tree_at c.rows (get_or c.expression 0 0)
-
--- The first of the first n numbers of a column that is x; n where none is.
-pub record FirstEqual (column : List ℕ) (n x i : ℕ) : Type 0 where
-  pub within : i ≤ n
-  pub found : i < n → get_or column i 0 ≡ x
-  pub before : (j : ℕ) → j < i → get_or column j 0 ≡ x → ⊥
 
 -- ---- Between the functions of the builder
 
@@ -80,14 +74,10 @@ pub record Meets (c : Lent) (k : Counts) (i a r : ℕ) : Type 0 where
   pub row : r < k.rows
   pub next : Starts (root c) (next_met c k i a r)
 
--- No row came.
-abbrev pub Kept : ℕ → Went → Type 0
-Kept n (On k) = k.rows ≡ n
-Kept n NoRoom = Unit {0}
-
-pub record Met (c : Lent) (k rooms : Counts) (i a r : ℕ) (w : Went) (c' : Lent) : Type 0 where
-  pub goes : Goes (root c) (next_met c k i a r) rooms w c'
-  pub kept : Kept k.rows w
+-- No row comes.
+pub record Met (c : Lent) (k rooms : Counts) (i a r : ℕ) (w : Result Unit NoRoom) (k' : Counts) (c' : Lent) : Type 0 where
+  pub goes : Goes (root c) (next_met c k i a r) rooms w k' c'
+  pub kept : k'.rows ≡ k.rows
 
 -- The columns of rows and states before the first state: zero, and as long as the rooms.
 pub record Begins (rooms : Counts) (t : Table) (expression accepting : List ℕ) : Type 0 where
@@ -122,9 +112,9 @@ pub record Standing (e : Expression) (rooms k : Counts) (t : Table) (expression 
   pub flags : accepting ≡ filled (length accepting) (cond (empty_word e) 1 0 ∷ [])
   pub state_room : 1 ≤ rooms.states
 
-abbrev pub Begun : Expression → Counts → Went → Table → List ℕ → List ℕ → Type 0
-Begun e rooms (On k) t expression accepting = Standing e rooms k t expression accepting
-Begun e rooms NoRoom t expression accepting = Exceeds e rooms
+abbrev pub Begun : Expression → Counts → Result Unit NoRoom → Counts → Table → List ℕ → List ℕ → Type 0
+Begun e rooms (Ok u) k t expression accepting = Standing e rooms k t expression accepting
+Begun e rooms (Err r) k t expression accepting = Exceeds e rooms
 
 -- Letters that are not used are none of e's.
 abbrev pub Knows : Letters → Expression → Type 0
@@ -136,5 +126,10 @@ pub record Started (c : Lent) (rooms k : Counts) : Type 0 where
   pub roomy : Roomy c rooms k
 
 -- All is met, or a need exceeds its room.
-pub record Reaches (e : Expression) (rooms : Counts) (w : Went) (c : Lent) : Type 0 where
-  pub goes : Goes e (meetings e) rooms w c
+pub record Reaches (e : Expression) (rooms : Counts) (w : Result Unit NoRoom) (k : Counts) (c : Lent) : Type 0 where
+  pub goes : Goes e (meetings e) rooms w k c
+
+-- The same with the counts as they are told.
+abbrev pub Makes : Expression → Counts → Result Told NoRoom → Lent → Type 0
+Makes e rooms (Ok k) c = Reaches e rooms (Ok tt) (record { rows = k.expressions; states = k.states; arcs = k.arcs }) c
+Makes e rooms (Err r) c = Exceeds e rooms

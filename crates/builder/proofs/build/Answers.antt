@@ -1,51 +1,35 @@
 -- `build` meets its contract, on its three ways out: a refusal of 1 to 8, the automaton, refusal 9.
-use Rattle.theory.specs.Table.{table}
-use Rattle.theory.specs.Arcs.{arc_columns, even_arcs}
-use Rattle.theory.specs.Build.{lent, even}
-use Rattle.builder.proofs.Lengths.{lengths_after, cleared_lengths, cleared_as}
-use Rattle.builder.proofs.Told.{no_room_of, reaches_as}
-use Rattle.builder.proofs.Owed.{fine_of, passed, built_refused, built_short, built_whole}
+use Rattle.std.proofs.Common.{ap}
+use Rattle.std.proofs.lemmas.Result.{err_from_is_err_and}
+use Rattle.theory.specs.Refusal as paper
+use Rattle.builder.proofs.Lengths.{lengths_of, lengths_after, cleared_lengths, cleared_as}
+use Rattle.builder.proofs.Owed.{as_tested, passed, cleared_blank, built_refused, built_short, built_whole}
 use Rattle.builder.proofs.build.Goals as goal
 
-pub returns-in-Refused : goal.returns-in-Refused
-unfolding even even_arcs
-returns-in-Refused c = built_refused c.checked.ensures c.in-Refused.is c.clear.ensures
+pub returns-in_err-checked-clause-built : goal.returns-in_err-checked-clause-built
+returns-in_err-checked-clause-built c =
+    let p = err_from_is_err_and c.from_residual.result c.from_residual.ensures.1 in
+    rw (p.1, p.2) (built_refused _ (as_tested _ _ c.are_even-even.ensures c.in_err-checked.ensures) c.clear.ensures.cleared)
 
-pub returns-in-On : goal.returns-in-On
-unfolding even even_arcs
-returns-in-On c =
-    let a = c.args in
-    let given = table a.kind.now a.left.now a.right.now in
-    let first = lent (table a.xkind.now a.xleft.now a.xright.now) a.expression.now a.accepting.now (arc_columns a.from.now a.letter.now a.to.now) in
-    let fine = passed given first c.checked.ensures (fine_of _ c.in_default.not-Refused) in
-    let k = c.make.auto in
-    built_whole given fine c.clear.ensures c.rooms-rooms.ensures (c.in-On.ensures).goes.0 (c.in-On.ensures).goes.1
-    (lengths_after (cleared_lengths c.clear.ensures)
-    (record {
-      kind = k.xkind;
-      left = k.xleft;
-      right = k.xright;
-      expression = k.expression;
-      accepting = k.accepting;
-      arcs = record { from = k.from; letter = k.letter; to = k.to };
-    }))
+pub make-requires-clause-right_value : goal.make-requires-clause-right_value
+make-requires-clause-right_value c =
+    let fine = passed _ _ (as_tested _ _ c.are_even-even.ensures c.in_ok-checked.ensures) in ap (λ (r : paper.Refusal). r.number) fine.1
 
-pub returns : goal.returns
-unfolding even even_arcs
-returns c =
-    let a = c.args in
-    let given = table a.kind.now a.left.now a.right.now in
-    let first = lent (table a.xkind.now a.xleft.now a.xright.now) a.expression.now a.accepting.now (arc_columns a.from.now a.letter.now a.to.now) in
-    let fine = passed given first c.checked.ensures (fine_of _ c.in_default.not-Refused) in
-    let k = c.make.auto in
-    built_short given fine c.clear.ensures c.rooms-rooms.ensures (reaches_as (no_room_of _ c.in_default-make.not-On) c.make.ensures).goes
+pub make-requires-clause-blank : goal.make-requires-clause-blank
+make-requires-clause-blank c =
+    let fine = passed _ _ (as_tested _ _ c.are_even-even.ensures c.in_ok-checked.ensures) in cleared_blank fine.0 c.clear.ensures.cleared
+
+pub returns-in_default-clause-built : goal.returns-in_default-clause-built
+returns-in_default-clause-built c =
+    let fine = passed _ _ (as_tested _ _ c.are_even-even.ensures c.in_ok-checked.ensures) in
+    built_short _ fine c.clear.ensures.cleared c.in_default.ensures.reaches
     (cleared_as
-    (lengths_after (cleared_lengths c.clear.ensures)
-    (record {
-      kind = k.xkind;
-      left = k.xleft;
-      right = k.xright;
-      expression = k.expression;
-      accepting = k.accepting;
-      arcs = record { from = k.from; letter = k.letter; to = k.to };
-    })) c.clear-2.ensures)
+    (lengths_after (cleared_lengths c.clear.ensures.cleared) (lengths_of c.make.ensures.same_rows c.make.ensures.same_states c.make.ensures.same_arcs))
+    c.clear-in_default.ensures.cleared)
+
+pub returns-clause-built : goal.returns-clause-built
+returns-clause-built c =
+    let fine = passed _ _ (as_tested _ _ c.are_even-even.ensures c.in_ok-checked.ensures) in
+    let g = c.in-Ok.ensures.reaches.goes in
+    built_whole _ fine c.clear.ensures.cleared g.0 g.1
+    (lengths_after (cleared_lengths c.clear.ensures.cleared) (lengths_of c.make.ensures.same_rows c.make.ensures.same_states c.make.ensures.same_arcs))
