@@ -8,9 +8,12 @@ mod records;
 mod tables;
 mod texts;
 
-fn main() {
-    texts::all();
+use std::alloc::AllocError;
+
+fn main(rt: HostRuntime) -> Result<(), AllocError> {
+    texts::all(rt.alloc())?;
     records::all();
     tables::all();
     kinds::all();
+    Ok(())
 }
