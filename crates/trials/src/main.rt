@@ -8,12 +8,11 @@ mod records;
 mod tables;
 mod texts;
 
-use std::alloc::AllocError;
-
-fn main(rt: HostRuntime) -> Result<(), AllocError> {
-    texts::all(rt.alloc())?;
+fn main() {
+    if texts::all().is_err() {
+        io::write_all(2, b"a text has no room\n");
+    }
     records::all();
     tables::all();
     kinds::all();
-    Ok(())
 }

@@ -3,8 +3,11 @@
 ghost use Rattle.std.specs.Prelude.{◌≤◌};
 
 use super::lines::line;
+use arrayvec::{ArrayVec, CapacityError};
 use columns::table::TableMut;
-use std::alloc::{AllocError, Global};
+
+// One byte more than a text may have.
+type Text = ArrayVec<u8, 4097>;
 
 // With columns of these lengths.
 fn read(text: &[u8], k: usize, l: usize, r: usize)
@@ -25,66 +28,69 @@ fn read(text: &[u8], k: usize, l: usize, r: usize)
 }
 
 // With stars after it, until it has n bytes.
-fn starred(mut text: Vec<u8>, n: usize) -> Result<(), AllocError> {
+fn starred(mut text: Text, n: usize) -> Result<(), CapacityError> {
     for _ in text.len()..n {
-        text.push(b'*')?;
+        text.try_extend_from_slice(b"*")?;
     }
     read(&text, 512, 512, 512);
     Ok(())
 }
 
 // `a` under stars, n bytes in all.
-fn stars(alloc: Global, n: usize) -> Result<(), AllocError> {
-    starred(b"a".to_vec(alloc)?, n)
+fn stars(n: usize) -> Result<(), CapacityError> {
+    let mut text = Text::new();
+    text.try_extend_from_slice(b"a")?;
+    starred(text, n)
 }
 
 // n open parentheses around `a`, and what closes them.
-fn parentheses(alloc: Global, n: usize) -> Result<(), AllocError> {
-    let mut text = Vec::new(alloc);
+fn parentheses(n: usize) -> Result<(), CapacityError> {
+    let mut text = Text::new();
     for _ in 0..n {
-        text.push(b'(')?;
+        text.try_extend_from_slice(b"(")?;
     }
-    text.push(b'a')?;
+    text.try_extend_from_slice(b"a")?;
     for _ in 0..n {
-        text.extend_from_slice(b"+b)")?;
+        text.try_extend_from_slice(b"+b)")?;
     }
     read(&text, 512, 512, 512);
     Ok(())
 }
 
 // `(x+x)` of the text x.
-fn doubled(alloc: Global, x: &[u8]) -> Result<Vec<u8>, AllocError> {
-    let mut text = Vec::new(alloc);
-    text.push(b'(')?;
-    text.extend_from_slice(x)?;
-    text.push(b'+')?;
-    text.extend_from_slice(x)?;
-    text.push(b')')?;
+fn doubled(x: &[u8]) -> Result<Text, CapacityError> {
+    let mut text = Text::new();
+    text.try_extend_from_slice(b"(")?;
+    text.try_extend_from_slice(x)?;
+    text.try_extend_from_slice(b"+")?;
+    text.try_extend_from_slice(x)?;
+    text.try_extend_from_slice(b")")?;
     Ok(text)
 }
 
 // A balanced tree of 256 letters, 511 entries in 1,021 bytes, under stars, n bytes in all.
-fn balanced(alloc: Global, n: usize) -> Result<(), AllocError> {
-    let mut text = b"a".to_vec(alloc)?;
+fn balanced(n: usize) -> Result<(), CapacityError> {
+    let mut text = Text::new();
+    text.try_extend_from_slice(b"a")?;
     for _ in 0..8 {
-        text = doubled(alloc, &text)?;
+        text = doubled(&text)?;
     }
     starred(text, n)
 }
 
-pub(crate) fn all(alloc: Global) -> Result<(), AllocError> {
+pub(crate) fn all() -> Result<(), CapacityError> {
     read(b"", 512, 512, 512);
     read(b"(a)", 512, 512, 512);
     read(b"0*", 512, 512, 512);
     read(b"(a&b&c)", 512, 512, 512);
-    stars(alloc, 512)?;
-    stars(alloc, 513)?;
-    stars(alloc, 4096)?;
-    stars(alloc, 4097)?;
-    parentheses(alloc, 64)?;
-    parentheses(alloc, 65)?;
-    balanced(alloc, 1022)?;
-    balanced(alloc, 1023)?;
+    stars(512)?;
+    stars(513)?;
+    stars(4096)?;
+    stars(4097)?;
+    parentheses(64)?;
+    parentheses(65)?;
+    balanced(1022)?;
+    balanced(1023)?;
     read(b"a", 0, 0, 0);
     read(b"a", 1, 1, 1);
     read(b"a*", 1, 1, 1);
