@@ -75,11 +75,7 @@ pub fn automaton(
             return Err(refusal);
         }
     };
-    let read = Table {
-        kind: &kind[..entries],
-        left: &left[..entries],
-        right: &right[..entries],
-    };
+    let read = table.view().first(entries);
     let counts = build(read, accepting, arcs)?;
     Ok(Site {
         entries,
