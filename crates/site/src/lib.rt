@@ -51,11 +51,7 @@ pub struct Site {
 }
 
 // The automaton of a written expression: read, and built where it is read. Entries are looked at by no program, and are not lent.
-pub fn automaton(
-    text: &[u8],
-    accepting: &mut [u8],
-    arcs: &mut ArcsMut<'_>,
-) -> Result<Site, Refusal>
+pub fn automaton(text: &[u8], accepting: &mut [u8], arcs: &mut ArcsMut<'_>) -> Result<Site, Refusal>
     ensures same { SameArcs arcs.old arcs.new }
     ensures made { Made text.now (shown accepting.old (lent_arcs arcs.old)) (values result)
         (shown accepting.new (lent_arcs arcs.new)) }
@@ -88,11 +84,7 @@ pub fn automaton(
 
 // The automaton of a table. Expressions and what the states name are looked at by no program, and are not lent; the rooms for arcs are the
 // columns' own.
-fn build(
-    given: Table<'_>,
-    accepting: &mut [u8],
-    arcs: &mut ArcsMut<'_>,
-) -> Result<Counts, Refusal>
+fn build(given: Table<'_>, accepting: &mut [u8], arcs: &mut ArcsMut<'_>) -> Result<Counts, Refusal>
     ensures same { SameArcs arcs.old arcs.new }
     ensures built { BuiltBeside (read_table given.entry) (shown accepting.old (lent_arcs arcs.old)) (counted result)
         (shown accepting.new (lent_arcs arcs.new)) }

@@ -7,7 +7,7 @@ ghost use Rattle.site.specs.Totals.{values, of_one, with_report, Fits, HasEntry}
 use crate::Site;
 use theory::refusal::Refusal;
 
-#[derive(Clone, Copy, PartialEq, Eq)]
+#[derive(Clone, Copy, PartialEq, Eq, Default)]
 pub struct Totals {
     pub built: u64,
     pub states: u64,
@@ -18,12 +18,7 @@ pub struct Totals {
 pub fn none() -> Totals
     ensures { values result ≡ record { built = 0; states = 0; powers = 0; few = 0 } }
 {
-    Totals {
-        built: 0,
-        states: 0,
-        powers: 0,
-        few: 0,
-    }
+    Totals::default()
 }
 
 // "m at most 10"
@@ -42,8 +37,7 @@ fn of_one(site: Result<Site, Refusal>) -> Totals
         return Totals {
             built: 1,
             states,
-            powers: 0,
-            few: 0,
+            ..none()
         };
     }
     Totals {
