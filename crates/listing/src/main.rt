@@ -114,6 +114,7 @@ fn main(rt: HostRuntime) {
     // A byte more than a text may have: of a longer line the reader sees that it is longer.
     let mut column = [0u8; limit::TEXT + 1];
     if let Err(failure) = answer(&mut input, &mut column) {
+        // Nothing is left to be said where that fails too.
         let _ = failure.tell();
     }
 }
