@@ -1,23 +1,23 @@
 -- The lines of the used arcs and of the states, in columns that hold the automaton of an expression, are its listing; each more of them comes
 -- after those before it.
-use Prim.Native.Nat.{ℕ, ◌+◌}
+use Prim.Native.Nat.{ℕ, ◌+◌, ◌*◌, ◌≤◌}
 use native.Mathlib.Nat.{zero-add}
 use native.Mathlib.Numerals.{add-one}
-use mathlib.Core.Path.{◌≡◌, refl, ap, ap₂, ◌∙◌, subst}
-use mathlib.Core.List.{List, [], ◌∷◌, ◌++◌, flat_map, append-nil}
+use native.Mathlib.Omega.{arith}
+use mathlib.Core.Path.{◌≡◌, refl, sym, ap, ap₂, ◌∙◌}
+use mathlib.Core.List.{List, [], ◌∷◌, ◌++◌, flat_map, append-nil, append_assoc}
+use borrow.Author.Tests.{eq-eqb, ne_eqb}
 use lib.ListN.{length, get_or}
 use Rattle.theory.specs.Expression.{Expression}
 use Rattle.theory.specs.Column.{filled}
 use Rattle.theory.specs.Automaton.{Arc, states, accepting, arcs, ascending}
 use Rattle.theory.specs.Arcs.{ArcColumns, arc_at, first_arcs, filled_arcs}
-use Rattle.theory.specs.Lines.{arc_line, listing}
+use Rattle.theory.specs.Lines.{arc_line, state_line, listing}
 use Rattle.theory.proofs.Column.{get_or_filled}
 use Rattle.theory.proofs.Filled.{filled_is}
 use Rattle.theory.proofs.Meetings.{ascending_more}
 use Rattle.theory.proofs.Members.{flat_map_append}
-use Rattle.lines.specs.Output.{Put}
-use Rattle.lines.proofs.Putting.{put_nothing, put_then}
-use Rattle.listing.specs.Listing.{arc_lines, state_text, state_lines}
+use Rattle.listing.specs.Listing.{arc_bytes, state_bytes, arc_lines, state_text, state_lines}
 
 abbrev line_of : Arc → List ℕ
 line_of z = arc_line z.from z.to z.letter
@@ -51,27 +51,44 @@ listed e size c =
     ap₂ (λ (zs : List Arc) (flags : ℕ → ℕ). flat_map line_of zs ++ flat_map (λ s. state_text (flags s) s) (ascending 0 (length (states e))))
     (filled_is e size c).arcs (λ i s. get_or_filled size (accepting e) s i)
 
--- ---- In a block
+-- ---- After what is held
 
-module _ (c : ArcColumns) {before : List ℕ} {used : ℕ} where
-  pub put_no_arcs : Put (arc_lines c 0) before used before used
-  put_no_arcs = rw arc_lines_none put_nothing
+-- The first i of some lines are put, each in its room.
+pub record Lined (lines : ℕ → List ℕ) (bytes : ℕ) (before after : List ℕ) (i : ℕ) : Type 0 where
+  pub put : after ≡ before ++ lines i
+  pub room : length after ≤ length before + i * bytes
 
-  pub put_arc : (i : ℕ) {between after : List ℕ} {used' used'' : ℕ} → Put (arc_lines c i) before used between used'
-      → Put (line_of (arc_at c i)) between used' after used'' → Put (arc_lines c (i + 1)) before used after used''
-  put_arc i p q = rw arc_lines_more (put_then p q)
+lined_none : (lines : ℕ → List ℕ) (bytes : ℕ) (before : List ℕ) → lines 0 ≡ [] → Lined lines bytes before before 0
+lined_none lines bytes before e = record { put = sym (append-nil before) ∙ ap (λ (x : List ℕ). before ++ x) (sym e); room = omega arith }
 
-  pub all_arcs : {i n : ℕ} {after : List ℕ} {used' : ℕ} → i ≡ n → Put (arc_lines c i) before used after used' → Put (arc_lines c n) before used after used'
-  all_arcs {after = after} {used'} e p = subst (λ (k : ℕ). Put (arc_lines c k) before used after used') e p
+lined_more : (lines : ℕ → List ℕ) (bytes : ℕ) {i : ℕ} (text : List ℕ) → lines (i + 1) ≡ lines i ++ text → {before between after : List ℕ}
+    → Lined lines bytes before between i → after ≡ between ++ text → length after ≤ length between + bytes → Lined lines bytes before after (i + 1)
+lined_more lines bytes {i} text e {before} l p r = record {
+  put =
+      p ∙ ap (λ (x : List ℕ). x ++ text) l.put ∙ append_assoc before (lines i) text ∙ ap (λ (x : List ℕ). before ++ x) (sym e);
+  room = let k = l.room in omega arith;
+}
 
-module _ (flags : List ℕ) {before : List ℕ} {used : ℕ} where
-  pub put_no_states : Put (state_lines flags 0) before used before used
-  put_no_states = rw state_lines_none put_nothing
+module _ (c : ArcColumns) where
+  pub no_arcs : (before : List ℕ) → Lined (arc_lines c) arc_bytes before before 0
+  no_arcs before = lined_none (arc_lines c) arc_bytes before (arc_lines_none c)
 
-  pub put_state : (i : ℕ) {between after : List ℕ} {used' used'' : ℕ} → Put (state_lines flags i) before used between used'
-      → Put (state_text (get_or flags i 0) i) between used' after used'' → Put (state_lines flags (i + 1)) before used after used''
-  put_state i p q = rw state_lines_more (put_then p q)
+  pub arc_more : {i : ℕ} {before between after : List ℕ} → Lined (arc_lines c) arc_bytes before between i
+      → after ≡ between ++ line_of (arc_at c i) → length after ≤ length between + arc_bytes → Lined (arc_lines c) arc_bytes before after (i + 1)
+  arc_more {i} l p r = lined_more (arc_lines c) arc_bytes (line_of (arc_at c i)) (arc_lines_more c i) l p r
 
-  pub all_states : {i n : ℕ} {after : List ℕ} {used' : ℕ} → i ≡ n → Put (state_lines flags i) before used after used'
-      → Put (state_lines flags n) before used after used'
-  all_states {after = after} {used'} e p = subst (λ (k : ℕ). Put (state_lines flags k) before used after used') e p
+module _ (flags : List ℕ) where
+  pub no_states : (before : List ℕ) → Lined (state_lines flags) state_bytes before before 0
+  no_states before = lined_none (state_lines flags) state_bytes before (state_lines_none flags)
+
+  pub state_more : {i : ℕ} {before between after : List ℕ} → Lined (state_lines flags) state_bytes before between i
+      → after ≡ between ++ state_text (get_or flags i 0) i → length after ≤ length between + state_bytes
+      → Lined (state_lines flags) state_bytes before after (i + 1)
+  state_more {i} l p r = lined_more (state_lines flags) state_bytes (state_text (get_or flags i 0) i) (state_lines_more flags i) l p r
+
+-- What is put of a state, by its accepting value.
+pub of_accepting : (flag s : ℕ) (before : List ℕ) {after : List ℕ} → flag ≡ 1 → after ≡ before ++ state_line s → after ≡ before ++ state_text flag s
+of_accepting flag s before e p = p ∙ ap (λ (x : List ℕ). before ++ x) (sym (rw (eq-eqb flag 1 e, state_text)))
+
+pub of_other : (flag s : ℕ) (before : List ℕ) → (flag ≡ 1 → ⊥) → before ≡ before ++ state_text flag s
+of_other flag s before n = sym (append-nil before) ∙ ap (λ (x : List ℕ). before ++ x) (sym (rw (ne_eqb flag 1 n, state_text)))

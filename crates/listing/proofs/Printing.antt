@@ -1,9 +1,10 @@
 -- From what the site made to the answer of the listing program. Leans on `Listed`, and on the site's laws of what it refuses and builds.
 use Prim.Native.Nat.{ℕ, ◌≤◌}
 use native.Mathlib.Omega.{arith}
-use mathlib.Core.Path.{◌≡◌, refl, sym, ap, ◌∙◌, subst}
-use mathlib.Core.List.{List, ◌++◌}
-use lib.ListN.{length, get_or, take}
+use mathlib.Core.Path.{◌≡◌, refl, sym, ap, ◌∙◌}
+use mathlib.Core.List.{List, [], ◌++◌, append_assoc}
+use lib.ListN.{length, get_or}
+use Rattle.std.specs.Prelude.{Result, Ok, Err}
 use Rattle.theory.specs.Limit.{most_states}
 use Rattle.theory.specs.Refusal.{Refusal}
 use Rattle.theory.specs.Automaton.{states}
@@ -11,9 +12,10 @@ use Rattle.theory.specs.Arcs.{ArcColumns}
 use Rattle.theory.specs.Grammar.{Text, Reading}
 use Rattle.theory.specs.Lines.{listing, refusal_line}
 use Rattle.theory.proofs.Filled.{filled_well_formed}
-use Rattle.lines.specs.declared.output.Written.{Written}
-use Rattle.lines.specs.Output.{Put, Wrote}
-use Rattle.lines.proofs.Putting.{put_then}
+use Rattle.lines.specs.declared.failure.Failure.{Failure}
+use Rattle.lines.specs.declared.failure.Failure.TheVariants.{Read, Write}
+use Rattle.lines.specs.Input.{Input, Took}
+use Rattle.lines.specs.Output.{WroteOut}
 use Rattle.theory.specs.Rooms
 use Rattle.theory.specs.Report.{Report, withheld, needs}
 use Rattle.site.specs.Site.{Shown, site_refusal, holding, Made}
@@ -21,7 +23,7 @@ use Rattle.site.proofs.Fitting.{Fits, fitting}
 use Rattle.site.proofs.Making.{unless_none, unless_some}
 use Rattle.site.proofs.Judging.{BuiltFrom}
 use Rattle.site.proofs.Telling.{RefusedBy, unread, no_room, refused_by}
-use Rattle.listing.specs.Listing.{Narrow, arc_lines, state_lines, own_columns, printed, Lists, Prints}
+use Rattle.listing.specs.Listing.{Narrow, arc_lines, state_lines, own_columns, printed, Lists, Prints, Answers, no_line}
 use Rattle.listing.proofs.Listed.{listed}
 
 -- ---- A refusal
@@ -31,8 +33,8 @@ unfolding printed
 refusal_printed unread = refl
 refusal_printed (no_room {e} p over) = ap refusal_line p ∙ sym (unless_some (site_refusal e own_columns) _ _ over)
 
-pub lists_refusal : {text : Text} {r : Refusal} {s' : Shown} {before after : List ℕ} {used : ℕ} → Made text own_columns (withheld r) s'
-    → Put (refusal_line r) before 0 after used → Lists text before after used
+pub lists_refusal : {text : Text} {r : Refusal} {s' : Shown} {before after : List ℕ} → Made text own_columns (withheld r) s'
+    → after ≡ before ++ refusal_line r → Lists text before after
 lists_refusal {r = r} h p = record {
   bytes = refusal_line r;
   printed = record { reading = h.reading; due = h.due; is = refusal_printed (refused_by h) };
@@ -79,21 +81,27 @@ module _ {text : Text} {q : Reading} {answer : Report} {s' : Shown} (b : BuiltFr
   printed_is =
       sym (unless_none (site_refusal b.read_as.expression own_columns) _ _ b.fits) ∙ sym (ap printed b.read_as.is)
 
-pub lists_automaton : {text : Text} {answer : Report} {s' : Shown} (h : Made text own_columns answer s') → BuiltFrom text h.reading own_columns answer s'
-    → {before between after : List ℕ} {used used' : ℕ} → Put (arc_lines s'.arcs answer.arcs) before 0 between used
-    → Put (state_lines s'.accepting answer.states) between used after used' → Lists text before after used'
-lists_automaton h b {before} {after = after} {used' = used'} p q = record {
+pub lists_automaton : {text : Text} {answer : Report} {s' : Shown} (h : Made text own_columns answer s')
+    → BuiltFrom text h.reading own_columns answer s' → {before between after : List ℕ} → between ≡ before ++ arc_lines s'.arcs answer.arcs
+    → after ≡ between ++ state_lines s'.accepting answer.states → Lists text before after
+lists_automaton {answer = answer} {s'} h b {before} p q = record {
   bytes = listing b.read_as.expression;
   printed = record { reading = h.reading; due = h.due; is = printed_is b };
-  put = subst (λ (x : List ℕ). Put x before 0 after used') (listing_is b) (put_then p q);
+  put =
+      q ∙ ap (λ (x : List ℕ). x ++ state_lines s'.accepting answer.states) p
+      ∙ append_assoc before (arc_lines s'.arcs answer.arcs) (state_lines s'.accepting answer.states)
+      ∙ ap (λ (x : List ℕ). before ++ x) (listing_is b);
 }
 
 -- ---- What is handed on to be written
 
-pub prints : {text : Text} {before after : List ℕ} {used : ℕ} {written : Written} → Lists text before after used
-    → Wrote (length (take used after)) written → Prints text written
-prints {after = after} {used} {written} h w = record {
-  bytes = h.bytes;
-  printed = h.printed;
-  all = subst (λ (x : List ℕ). Wrote (length x) written) h.put.stands w;
-}
+pub prints : {text : Text} {before held : List ℕ} (written : Result ℕ Failure) (left : List ℕ) → before ≡ [] → Lists text before held
+    → WroteOut held written left → Prints text written
+prints (Ok n) left e l w = record { bytes = l.bytes; printed = l.printed; all = w.0 ∙ ap length (l.put ∙ ap (λ (x : List ℕ). x ++ l.bytes) e) }
+prints (Err Write) left e l w = record { bytes = l.bytes; printed = l.printed; all = tt }
+prints (Err Read) left e l w = absurd w
+
+-- No line was taken where a read failed.
+pub none_taken : {input input' : Input} {column : List ℕ} (f : Failure) → Took input (Err f) input' column → Answers input (Err f) input'
+none_taken Read t = no_line t.holds
+none_taken Write t = absurd t.holds

@@ -1,15 +1,19 @@
 -- What the listing program answers: the listing of the expression that the text writes, or the refusal's line. The lines of the first arcs and
 -- of the first states, from which it is put together.
-use Rattle.std.specs.Prelude.{ℕ, ◌+◌, ◌*◌, ◌<◌, ◌≡◌, cond, length, get_or, eqb}
-use mathlib.Core.List.{List, [], flat_map}
+use Rattle.std.specs.Prelude.{ℕ, ◌+◌, ◌*◌, ◌<◌, ◌≡◌, cond, length, get_or, eqb, Option, Result, Ok, Err}
+use mathlib.Core.List.{List, [], ◌++◌, flat_map}
+use Rattle.theory.specs.Limit.{longest_text}
 use Rattle.theory.specs.Automaton.{Arc, ascending}
-use Rattle.theory.specs.Arcs.{ArcColumns, first_arcs}
+use Rattle.theory.specs.Arcs.{ArcColumns, arc_columns, first_arcs}
 use Rattle.theory.specs.Column.{zeros}
 use Rattle.theory.specs.Grammar.{Text, Reading, read, refused}
 use Rattle.theory.specs.Read.{Due}
 use Rattle.theory.specs.Lines.{arc_line, state_line, listing, refusal_line}
-use Rattle.lines.specs.declared.output.Written.{Written}
-use Rattle.lines.specs.Output.{Put, Wrote}
+use Rattle.lines.specs.declared.failure.Failure.{Failure}
+use Rattle.lines.specs.declared.failure.Failure.TheVariants.{Read}
+use Rattle.lines.specs.declared.input.Line.{Line}
+use Rattle.lines.specs.Input.{Input, Unbroken, Took, line_bytes}
+use Rattle.lines.specs.Output.{Wrote}
 use Rattle.theory.specs.Rooms
 use Rattle.site.specs.Site.{Shown, shown, entry_columns, site_refusal, unless_refused}
 
@@ -48,7 +52,7 @@ state_lines flags n = flat_map (λ s. state_text (get_or flags s 0) s) (ascendin
 
 -- The columns that the program lends.
 abbrev pub own_columns : Shown
-own_columns = shown (zeros Rooms.states) (zeros Rooms.arcs) (zeros Rooms.arcs) (zeros Rooms.arcs)
+own_columns = shown (zeros Rooms.states) (arc_columns (zeros Rooms.arcs) (zeros Rooms.arcs) (zeros Rooms.arcs))
 
 -- 01: "prints the automaton"; "Both print `refused R P` (number, place) on a refusal".
 unfoldable pub printed : Reading → List ℕ
@@ -61,14 +65,20 @@ pub record Printed (text : Text) (bytes : List ℕ) : Type 0 where
   pub due : Due text entry_columns reading
   pub is : bytes ≡ printed reading
 
--- What `list` owes: the used part of the block is the answer to the text.
-pub record Lists (text : Text) (before after : List ℕ) (used : ℕ) : Type 0 where
+-- What `list` owes: the answer to the text is held after what was held.
+pub record Lists (text : Text) (before after : List ℕ) : Type 0 where
   pub bytes : List ℕ
   pub printed : Printed text bytes
-  pub put : Put bytes before 0 after used
+  pub put : after ≡ before ++ bytes
 
 -- What `print` owes: as many bytes as the answer has were handed on to be written.
-pub record Prints (text : Text) (written : Written) : Type 0 where
+pub record Prints (text : Text) (written : Result ℕ Failure) : Type 0 where
   pub bytes : List ℕ
   pub printed : Printed text bytes
   pub all : Wrote (length bytes) written
+
+-- What `answer` owes: the next line was taken, and its answer handed on; or a read of it failed.
+pub data Answers (input : Input) : Result ℕ Failure → Input → Type 0 where
+  of_line : {line : Option Line} {input' : Input} {column : List ℕ} {written : Result ℕ Failure} → length column ≡ longest_text + 1
+      → Took input (Ok line) input' column → Prints (line_bytes line column) written → Answers input written input'
+  no_line : {input' : Input} → Unbroken input.untaken → Answers input (Err Read) input'

@@ -1,122 +1,90 @@
-// A line as it was taken, its report after what a block holds, and the totals with it.
+// A line as it was taken, its report after what is held, and the totals with it.
 
-ghost use Rattle.std.specs.Prelude.{◌+◌, ◌≤◌, ◌≡◌, length};
+ghost use Rattle.std.specs.Prelude.{◌+◌, ◌≤◌, ◌≡◌, ◌++◌, length};
 ghost use Rattle.theory.specs.Limit.{longest_text};
 ghost use Rattle.theory.specs.Grammar.{Text};
 ghost use Rattle.theory.specs.Report.{report};
 ghost use Rattle.theory.specs.Lines.{report_line, totals_line};
-ghost use Rattle.lines.specs.Input.{Inside};
-ghost use Rattle.lines.specs.Output.{Put, line_room};
+ghost use Rattle.lines.specs.Output.{line_room};
 ghost use Rattle.site.specs.Values.{values as reported};
 ghost use Rattle.site.specs.Totals.{values, with_report, Fits, HasEntry};
 ghost use Rattle.rooms.specs.Turn.{Answered, Turned};
 
-use lines::input::{Input, Line};
-use lines::output;
-use lines::turn::Asked;
+use columns::arcs::ArcsMut;
+use lines::failure::Failure;
+use lines::input::Input;
+use lines::output::Output;
 use site::Site;
 use site::totals::Totals;
 use std::io::Read;
+use theory::refusal::Refusal;
 
 // 2026-01: "per line, single-spaced, entries, letters, states, expressions and arcs, or the refusal".
-pub fn line(block: &mut [u8], used: usize, site: Site) -> usize
-    requires { HasEntry (reported site) × (used + line_room ≤ length block.old) }
-    ensures put { Put (report_line (reported site)) block.old used block.new result }
-    ensures upper_bound { result ≤ used + line_room }
+pub fn line<const ROOM: usize>(output: &mut Output<ROOM>, site: Result<Site, Refusal>)
+    requires { HasEntry (reported site) × (length output.old + line_room ≤ ROOM) }
+    ensures put { output.new ≡ output.old ++ report_line (reported site) }
+    ensures upper_bound { length output.new ≤ length output.old + line_room }
 {
     match site {
-        Site::Refused { number, place } => output::refused(block, used, number, place),
-        Site::Built {
-            entries,
-            letters,
-            states,
-            expressions,
-            arcs,
-        } => {
+        Err(refusal) => output.refused(refusal),
+        Ok(site) => {
             let before = [
-                entries as u64,
-                letters as u64,
-                states as u64,
-                expressions as u64,
+                site.entries as u64,
+                site.letters as u64,
+                site.states as u64,
+                site.expressions as u64,
             ];
-            output::row(block, used, &before, arcs as u64)
+            output.row(&before, site.arcs as u64);
         }
     }
 }
 
 // "a last line of totals"
-pub fn totals_line(block: &mut [u8], used: usize, totals: Totals) -> usize
-    requires { used + line_room ≤ length block.old }
-    ensures put { Put (totals_line (values totals)) block.old used block.new result }
-    ensures upper_bound { result ≤ used + line_room }
+pub fn totals_line<const ROOM: usize>(output: &mut Output<ROOM>, totals: Totals)
+    requires { length output.old + line_room ≤ ROOM }
+    ensures put { output.new ≡ output.old ++ totals_line (values totals) }
+    ensures upper_bound { length output.new ≤ length output.old + line_room }
 {
     let before = [totals.built, totals.states, totals.powers];
-    output::row(block, used, &before, totals.few)
-}
-
-#[derive(Drop)]
-pub struct Standing {
-    pub totals: Totals,
-    pub used: usize,
+    output.row(&before, totals.few);
 }
 
 // What a text comes to, in the programs' rooms.
-fn answer(text: &[u8], totals: Totals, block: &mut [u8], used: usize) -> Standing
-    requires { Fits (with_report (values totals) (report text.now)) × (used + line_room ≤ length block.old) }
-    ensures { Answered text.now (values totals) block.old used result block.new }
+fn answer<const ROOM: usize>(text: &[u8], totals: Totals, output: &mut Output<ROOM>) -> Totals
+    requires { Fits (with_report (values totals) (report text.now)) × (length output.old + line_room ≤ ROOM) }
+    ensures { Answered text.now (values totals) output.old result output.new }
 {
     let mut accepting = [0u8; site::STATES];
     let mut from = [0u16; site::ARCS];
     let mut letter = [0u8; site::ARCS];
     let mut to = [0u16; site::ARCS];
-    let site = site::automaton(text, &mut accepting, &mut from, &mut letter, &mut to);
-    Standing {
-        totals: site::totals::with(totals, site),
-        used: line(block, used, site),
-    }
+    let mut arcs = ArcsMut {
+        from: &mut from,
+        letter: &mut letter,
+        to: &mut to,
+    };
+    let site = site::automaton(text, &mut accepting, &mut arcs);
+    line(output, site);
+    totals.with(site)
 }
 
-#[derive(Drop)]
-pub enum Turn {
-    Next { input: Input, standing: Standing },
-    End,
-    ReadFailed,
-    WriteFailed,
-}
-
-// The next line and its report.
-pub fn answer_next<R: Read>(
-    source: &mut R,
-    taken: &mut [u8],
-    input: Input,
+// The next line and its report: the totals with it, where there is one.
+pub fn answer_next<R: Read, const SIZE: usize, const ROOM: usize>(
+    input: &mut Input<R, SIZE>,
     column: &mut [u8],
     totals: Totals,
-    block: &mut [u8],
-    used: usize,
-) -> Turn
-    requires inside { Inside input taken.old × (length column.old ≡ longest_text + 1) }
-    requires used_in_bounds { (used ≤ length block.old) × (line_room ≤ length block.old) }
+    output: &mut Output<ROOM>,
+) -> Result<Option<Totals>, Failure>
+    requires rooms { (length column.old ≡ longest_text + 1) × (line_room ≤ ROOM) }
     requires fits { (t : Text) → Fits (with_report (values totals) (report t)) }
-    ensures { Turned taken.old input (values totals) block.old used result taken.new block.new }
+    ensures { Turned input.old ROOM (values totals) output.old result input.new output.new }
 {
-    let Asked::Line { line, used: left } = lines::turn::ask(
-        source, taken, input, column, block, used,
-    ) else {
-        return Turn::WriteFailed;
-    };
+    let line = lines::turn::ask(input, column, output)?;
     match line {
-        Line::None => Turn::End,
-        Line::Failed => Turn::ReadFailed,
-        Line::Ended {
-            length: _,
-            input: after,
-        } => Turn::Next {
-            input: after,
-            standing: answer(lines::input::bytes(line, column), totals, block, left),
-        },
-        Line::Full { input: after } => Turn::Next {
-            input: after,
-            standing: answer(lines::input::bytes(line, column), totals, block, left),
-        },
+        None => Ok(None),
+        Some(_) => {
+            let text = lines::input::bytes(line, column);
+            Ok(Some(answer(text, totals, output)))
+        }
     }
 }

@@ -4,139 +4,93 @@
 
 mod answers;
 
-ghost use Rattle.std.specs.Prelude.{◌+◌, ◌≤◌, ◌≡◌, length};
+ghost use Rattle.std.specs.Prelude.{◌+◌, ◌≤◌, ◌≡◌, [], length};
 ghost use Rattle.theory.specs.Limit.{longest_text};
-ghost use Rattle.lines.specs.Input.{Inside};
-ghost use Rattle.lines.specs.Output.{line_room, Wrote};
+ghost use Rattle.lines.specs.Output.{line_room, WroteOut};
 ghost use Rattle.site.specs.Totals.{values};
-ghost use Rattle.rooms.specs.Reported.{Ends, Last, Reports};
+ghost use Rattle.rooms.specs.Reported.{Ends, Last, Reports, Runs};
 
-use answers::Turn;
-use lines::input::{Input, Line};
-use lines::output;
-use lines::output::Written;
-use lines::turn::Asked;
+use lines::failure::Failure;
+use lines::input::Input;
+use lines::output::Output;
 use site::totals::Totals;
 use std::io::Read;
 use theory::limit;
+use theory::refusal::{Cause, Refusal};
 
 const TAKEN: usize = 65536;
 
 const ANSWERS: usize = 4096;
 
-#[derive(Drop)]
-enum Reported {
-    All { used: usize },
-    ReadFailed,
-    WriteFailed,
-}
-
 // 22: "more than 100,000 lines, printed after the first 100,000 in place of the totals".
-fn end<R: Read>(
-    source: &mut R,
-    taken: &mut [u8],
-    input: Input,
+fn end<R: Read, const SIZE: usize, const ROOM: usize>(
+    input: &mut Input<R, SIZE>,
     column: &mut [u8],
     totals: Totals,
-    block: &mut [u8],
-    used: usize,
-) -> Reported
-    requires inside { Inside input taken.old × (length column.old ≡ longest_text + 1) }
-    requires used_in_bounds { (used ≤ length block.old) × (line_room ≤ length block.old) }
-    ensures { Ends taken.old input (values totals) block.old used result taken.new block.new }
+    output: &mut Output<ROOM>,
+) -> Result<(), Failure>
+    requires { (length column.old ≡ longest_text + 1) × (line_room ≤ ROOM) }
+    ensures { Ends input.old ROOM (values totals) output.old result input.new output.new }
 {
-    let Asked::Line { line, used: left } = lines::turn::ask(
-        source, taken, input, column, block, used,
-    ) else {
-        return Reported::WriteFailed;
-    };
-    match line {
-        Line::None => Reported::All {
-            used: answers::totals_line(block, left, totals),
-        },
-        Line::Failed => Reported::ReadFailed,
-        Line::Ended {
-            length: _,
-            input: _,
-        } => Reported::All {
-            used: output::refused(block, left, theory::refusal::LINES_MANY, 0),
-        },
-        Line::Full { input: _ } => Reported::All {
-            used: output::refused(block, left, theory::refusal::LINES_MANY, 0),
-        },
+    match lines::turn::ask(input, column, output)? {
+        None => answers::totals_line(output, totals),
+        Some(_) => output.refused(Refusal {
+            cause: Cause::LinesMany,
+            place: 0,
+        }),
     }
+    Ok(())
 }
 
-// The report on all lines from here on, up to what the block holds of it at the end.
-fn report<R: Read>(
-    source: &mut R,
-    taken: &mut [u8],
-    start: Input,
+// The report on all lines from here on, up to what is held of it at the end.
+fn report<R: Read, const SIZE: usize, const ROOM: usize>(
+    input: &mut Input<R, SIZE>,
     column: &mut [u8],
-    block: &mut [u8],
-) -> Reported
-    requires { Inside start taken.old × (length column.old ≡ longest_text + 1) × (line_room ≤ length block.old) }
-    ensures { Reports taken.old start result block.new }
+    output: &mut Output<ROOM>,
+) -> Result<(), Failure>
+    requires { (length column.old ≡ longest_text + 1) × (line_room ≤ ROOM) × (output.old ≡ []) }
+    ensures { Reports input.old result output.new }
 {
-    let mut input = start;
     let mut totals = site::totals::none();
-    let mut used = 0;
-    let mut lines = 0;
-    while lines < limit::LINES {
-        match answers::answer_next(source, taken, input, column, totals, block, used) {
-            Turn::Next {
-                input: after,
-                standing,
-            } => {
-                input = after;
-                totals = standing.totals;
-                used = standing.used;
-                lines += 1;
-            }
-            // Nothing of the answers is left in the block: they were written before the read that found the end.
-            Turn::End => {
-                return Reported::All {
-                    used: answers::totals_line(block, 0, totals),
-                };
-            }
-            Turn::ReadFailed => return Reported::ReadFailed,
-            Turn::WriteFailed => return Reported::WriteFailed,
-        }
+    for _ in 0..limit::LINES {
+        let Some(more) = answers::answer_next(input, column, totals, output)? else {
+            // Nothing of the answers is held: they were written before the read that found the end.
+            answers::totals_line(output, totals);
+            return Ok(());
+        };
+        totals = more;
     }
-    end(source, taken, input, column, totals, block, used)
+    end(input, column, totals, output)
 }
 
 // What is handed on last ends a report.
-fn hand_on(bytes: &[u8]) -> Written
-    requires { Last bytes.now }
-    ensures { Wrote (length bytes.now) result }
+fn hand_on<const ROOM: usize>(output: &mut Output<ROOM>) -> Result<usize, Failure>
+    requires { Last output.old }
+    ensures { WroteOut output.old result output.new }
 {
-    output::write(bytes)
+    output.write_out()
+}
+
+// The report on all lines, written out whole.
+fn run<R: Read, const SIZE: usize, const ROOM: usize>(
+    input: &mut Input<R, SIZE>,
+    column: &mut [u8],
+    output: &mut Output<ROOM>,
+) -> Result<usize, Failure>
+    requires { (length column.old ≡ longest_text + 1) × (line_room ≤ ROOM) × (output.old ≡ []) }
+    ensures { Runs input.old result }
+{
+    report(input, column, output)?;
+    hand_on(output)
 }
 
 fn main(rt: HostRuntime) {
-    let mut source = rt.stdin();
-    let mut taken = [0u8; TAKEN];
+    let mut input = Input::<_, TAKEN>::new(rt.stdin());
     // A byte more than a text may have: of a longer line the reader sees that it is longer.
     let mut column = [0u8; limit::TEXT + 1];
-    let mut block = [0u8; ANSWERS];
-    match report(
-        &mut source,
-        &mut taken,
-        Input::start(),
-        &mut column,
-        &mut block,
-    ) {
-        Reported::All { used } => {
-            if let Written::Failed = hand_on(&block[..used]) {
-                output::tell_write_failed();
-            }
-        }
-        Reported::ReadFailed => {
-            output::tell_read_failed();
-        }
-        Reported::WriteFailed => {
-            output::tell_write_failed();
-        }
+    let mut output = Output::<ANSWERS>::new();
+    if let Err(failure) = run(&mut input, &mut column, &mut output) {
+        // Nothing is left to be said where that fails too.
+        let _ = failure.tell();
     }
 }

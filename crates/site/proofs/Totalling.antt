@@ -1,14 +1,14 @@
 -- The totals are sums over all texts, and 64 bits hold those of 100,000.
-use Prim.Native.Nat.{ℕ, ◌+◌, ◌*◌, ◌%◌, ◌^◌, ◌<◌, ◌≤◌}
-use native.Mathlib.Nat.{one-mul, mul-suc, add_comm}
+use Prim.Native.Nat.{ℕ, ◌+◌, ◌*◌, ◌^◌, ◌≤◌}
+use native.Mathlib.Nat.{mul-suc, add_comm}
 use native.Mathlib.Omega.{arith}
-use borrow.Author.Tests.{ne_eqb, lt-ltb, le-ltb, ltb-true, ltb-false}
-use mathlib.Core.Path.{◌≡◌, refl, sym, ap, ◌∙◌, subst}
+use borrow.Author.Tests.{ltb-true, ltb-false}
+use mathlib.Core.Path.{◌≡◌, refl, sym, ap, ◌∙◌}
 use mathlib.Core.Bool.{Bool, true, false, cond, ◌&&◌}
 use mathlib.Core.List.{List, [], ◌∷◌, ◌++◌, map, map-append}
 use lib.ListN.{length}
 use lib.Dec.{ltb}
-use lib.Pow.{shl_exact, pow_mono}
+use lib.Pow.{pow_mono}
 use Rattle.theory.specs.Limit.{most_lines}
 use Rattle.theory.specs.Refusal.{refusal, room_small}
 use Rattle.theory.specs.Automaton.{states, expressions, arcs}
@@ -16,7 +16,7 @@ use Rattle.theory.specs.Grammar.{Text, Reading, read, refused}
 use Rattle.theory.specs.Rooms
 use Rattle.theory.specs.Report.{Report, Totals, withheld, needs, too_large, reading, of_reading, report, those, sum, is_built, is_small, totals}
 use Rattle.theory.proofs.Tests.{and_right, or_left, or_right}
-use Rattle.site.specs.Totals.{of_one, plus, with_report, Fits, HasEntry}
+use Rattle.site.specs.Totals.{of_one, plus, with_report, Fits}
 
 -- ---- Sums over all texts
 

@@ -1,32 +1,44 @@
--- `list` puts the listing of the text's expression into the block, or the refusal's line.
-use Rattle.std.proofs.Common.{refl, arith}
+-- `list` puts the listing of the text's expression, or the refusal's line.
+use Rattle.std.proofs.Common.{refl, sym, ap, ◌∙◌, subst, ◌++◌, length, arith, rules}
+use Rattle.theory.specs.Arcs.{ArcColumns}
 use Rattle.site.proofs.Judging.{built_from}
+use Rattle.listing.specs.Listing.{Narrow, arc_lines}
 use Rattle.listing.proofs.Printing.{lists_refusal, lists_automaton, few_states, few_arcs, narrow}
 use Rattle.listing.proofs.list.Goals as goal
 
-pub arcs-used-requires-clause-arc_bytes_in_bounds : goal.arcs-used-requires-clause-arc_bytes_in_bounds
-arcs-used-requires-clause-arc_bytes_in_bounds c =
-    let few = few_arcs (built_from c.in-Built.ensures refl) in
-    let kept = c.automaton.auto in
-    (omega (arith, c.requires, few), omega (arith, kept.from, few), omega (arith, kept.letter, few), omega (arith, kept.to, few))
-
-pub arcs-used-requires-clause-narrow : goal.arcs-used-requires-clause-narrow
-arcs-used-requires-clause-narrow c = narrow (built_from c.in-Built.ensures refl)
-
-pub states-requires : goal.states-requires
-states-requires c =
-    let b = built_from c.in-Built.ensures refl in
-    let few = few_states b in
-    let arcs = few_arcs b in
-    let put = c.arcs-used in (
-      omega (arith, put.ensures.upper_bound, put.auto.block, c.requires, few, arcs),
-      omega (arith, c.automaton.auto.accepting, few),
-      few,
+pub arcs-requires : goal.arcs-requires
+arcs-requires g c =
+    let b = built_from c.in-Ok.ensures.made refl in
+    let few = few_arcs b in
+    let kept = c.in-Ok.ensures.same in
+    let from = ap (λ (a : ArcColumns). length a.from) c.view.ensures in
+    let letter = ap (λ (a : ArcColumns). length a.letter) c.view.ensures in
+    let to = ap (λ (a : ArcColumns). length a.to) c.view.ensures in (
+      search rules,
+      (
+        (
+          omega (arith, c.requires, few),
+          omega (arith, kept.from.length, from, few),
+          omega (arith, kept.letter.length, letter, few),
+          omega (arith, kept.to.length, to, few),
+        ),
+        subst (λ (a : ArcColumns). Narrow a c.in-Ok.site.arcs) (sym c.view.ensures) (narrow b),
+      ),
     )
 
-pub returns-in-Refused : goal.returns-in-Refused
-returns-in-Refused c = lists_refusal c.in-Refused.ensures c.refused.ensures.put
+pub states-requires : goal.states-requires
+states-requires g c =
+    let b = built_from c.in-Ok.ensures.made refl in
+    let few = few_states b in
+    let arcs = few_arcs b in (
+      search rules,
+      (omega (arith, c.arcs.ensures.upper_bound, c.requires, few, arcs), omega (arith, c.automaton.auto.accepting, few), few),
+    )
 
-pub returns-in-Built : goal.returns-in-Built
-returns-in-Built c =
-    lists_automaton c.in-Built.ensures (built_from c.in-Built.ensures refl) c.arcs-used.ensures.put c.states.ensures.put
+pub returns-in-Err : goal.returns-in-Err
+returns-in-Err g c = lists_refusal c.in-Err.ensures.made c.refused.ensures.put
+
+pub returns-in-Ok : goal.returns-in-Ok
+returns-in-Ok g c =
+    let put = c.arcs.ensures.put ∙ ap (λ (a : ArcColumns). c.args.output.now ++ arc_lines a c.in-Ok.site.arcs) c.view.ensures in
+    lists_automaton c.in-Ok.ensures.made (built_from c.in-Ok.ensures.made refl) put c.states.ensures.put

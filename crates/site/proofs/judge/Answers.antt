@@ -1,5 +1,5 @@
 -- `judge` is the three calls one after the other.
-use Rattle.std.proofs.Common.{refl, sym, ◌∙◌}
+use Rattle.std.proofs.Common.{refl, ◌∙◌}
 use Rattle.theory.specs.Column.{zeros}
 use Rattle.theory.specs.Arcs.{arc_columns}
 use Rattle.site.proofs.Telling.{told_refused, told_verdict, told_refusal}
