@@ -1,25 +1,26 @@
--- The letters among the first entries, one entry after the other.
+-- The letters among the entries, counted by place or one after the other.
 use Prim.Native.Nat.{ℕ, ◌+◌}
-use native.Mathlib.Numerals.{add-one}
+use native.Mathlib.Omega.{arith}
 use mathlib.Core.Path.{◌≡◌, refl, sym, ap, ◌∙◌}
-use mathlib.Core.List.{List}
-use lib.ListN.{get_or}
+use mathlib.Core.Bool.{cond}
+use mathlib.Core.List.{List, ◌∷◌}
+use lib.ListN.{length, get_or}
 use lib.Dec.{eqb}
-use borrow.Author.Tests.{eq-eqb, ne_eqb}
+use Rattle.std.specs.Prelude.{count_by}
+use Rattle.std.proofs.lemmas.List.Recursion.{is_count_by}
 use Rattle.theory.specs.Kind
 use Rattle.theory.specs.Below.{count_below}
+use Rattle.theory.proofs.Below.{count_front}
 
 abbrev pub lettered : List ℕ → ℕ → ℕ
 lettered kind n = count_below n (λ i. eqb (get_or kind i 0) Kind.letter)
 
-pub letters_none : (kind : List ℕ) → 0 ≡ lettered kind 0
+pub letters_counted : (kind : List ℕ) → count_by (λ k. eqb k Kind.letter) kind ≡ lettered kind (length kind)
 unfolding count_below
-letters_none kind = refl
-
-pub letter_more : (kind : List ℕ) (i : ℕ) → get_or kind i 0 ≡ Kind.letter → lettered kind (i + 1) ≡ lettered kind i + 1
-unfolding count_below
-letter_more kind i e = ap (lettered kind) (add-one i) ∙ rw (eq-eqb (get_or kind i 0) Kind.letter e) (sym (add-one (lettered kind i)))
-
-pub other_more : (kind : List ℕ) (i : ℕ) → (get_or kind i 0 ≡ Kind.letter → ⊥) → lettered kind (i + 1) ≡ lettered kind i
-unfolding count_below
-other_more kind i n = ap (lettered kind) (add-one i) ∙ rw (ne_eqb (get_or kind i 0) Kind.letter n)
+letters_counted kind = sym (is_count_by (λ xs. lettered xs (length xs)) (λ k. eqb k Kind.letter) refl more kind)
+  where
+    more : (x : ℕ) (xs : List ℕ) → lettered (x ∷ xs) (length (x ∷ xs))
+        ≡ cond (eqb x Kind.letter) (1 + lettered xs (length xs)) (lettered xs (length xs))
+    more x xs =
+        count_front (length xs) (λ i. eqb (get_or (x ∷ xs) i 0) Kind.letter)
+        ∙ ap (λ (n : ℕ). cond (eqb x Kind.letter) n (lettered xs (length xs))) (omega arith)

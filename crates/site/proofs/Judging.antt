@@ -20,18 +20,12 @@ use Rattle.theory.proofs.Grammar.{unambiguous}
 use Rattle.theory.proofs.Handing.{judged_so, accepted_exactly}
 use Rattle.theory.proofs.Rows.{rows_tree, rows_refused_never}
 use Rattle.theory.proofs.WellFormed.{Lettered, well_formed, tree_lettered}
-use Rattle.site.specs.declared.Site.{Site}
 use Rattle.theory.specs.Rooms
 use Rattle.theory.specs.Report.{Report, needs}
 use Rattle.site.specs.Site.{Shown, site_refusal, answered, holding, left_in, Made}
-use Rattle.site.specs.Values.{values}
 use Rattle.site.specs.Sited.{automaton_in, Sited, OfText, Judges, JudgedOver}
 use Rattle.site.proofs.Fitting.{Fits, fitting}
 use Rattle.site.proofs.Making.{answered_built, answered_refused, left_built}
-
--- What the site's enum says.
-pub made_as : {text : Text} {s s' : Shown} {r r' : Site} → r ≡ r' → Made text s (values r) s' → Made text s (values r') s'
-made_as {text} {s} {s'} e h = subst (λ (r : Site). Made text s (values r) s') e h
 
 -- ---- What was made without refusal
 

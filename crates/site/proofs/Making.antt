@@ -25,7 +25,7 @@ use Rattle.theory.proofs.States.{states_some}
 use Rattle.theory.proofs.WellFormed.{well_formed, tree_letters}
 use Rattle.theory.specs.Rooms
 use Rattle.theory.specs.Report.{withheld, needs}
-use Rattle.site.specs.Site.{Shown, entry_columns, beside, site_refusal, unless_refused, answered, blank, holding, left_in, Made}
+use Rattle.site.specs.Site.{Shown, entry_columns, beside, site_refusal, unless_refused, answered, blank, holding, left_in, BuiltBeside, Made}
 use Rattle.site.proofs.Counting.{lettered}
 use Rattle.site.proofs.Fitting.{site_built}
 
@@ -116,12 +116,6 @@ module _ {text : Text} {q : Reading} (x : Expressed text q) {s s' : Shown} {rows
 
 -- ---- Where it was read
 
--- So many entries stand in each of the three columns.
-pub record Within (n : ℕ) (t : Table) : Type 0 where
-  pub kind : n ≤ length t.kind
-  pub left : n ≤ length t.left
-  pub right : n ≤ length t.right
-
 module _ {text : Text} {n : ℕ} {t' : Table} (h : Read text entry_columns (record { refusal = success; entries = n }) t') where
   pub read_as : Expressed text h.reading
   read_as = expressed h.due (ap (λ (a : Entered). a.refusal.number) (sym h.answers))
@@ -129,8 +123,13 @@ module _ {text : Text} {n : ℕ} {t' : Table} (h : Read text entry_columns (reco
   counted : n ≡ entries read_as.expression
   counted = ap (λ (a : Entered). a.entries) (h.answers ∙ ap entered read_as.is)
 
-  pub within : Within n t'
-  within = record { kind = column (λ w. w.kind) h.kind; left = column (λ w. w.left) h.left; right = column (λ w. w.right) h.right }
+  -- So many entries stand in each of the three columns.
+  pub within : {t : Table} → t ≡ t' → (n ≤ length t.kind) × (n ≤ length t.left) × (n ≤ length t.right)
+  within is = (
+    column (λ w. w.kind) (ap (λ (g : Table). g.kind) is ∙ h.kind),
+    column (λ w. w.left) (ap (λ (g : Table). g.left) is ∙ h.left),
+    column (λ w. w.right) (ap (λ (g : Table). g.right) is ∙ h.right),
+  )
     where
       column : (field : Row → ℕ) {xs : List ℕ} → xs ≡ column_of field h.reading Rooms.entries → n ≤ length xs
       column field q =
@@ -140,56 +139,55 @@ module _ {text : Text} {n : ℕ} {t' : Table} (h : Read text entry_columns (reco
           let same = ap length (q ∙ ap (λ (r : Reading). column_of field r Rooms.entries) read_as.is) in
           omega (arith, read_as.fits, counted)
 
-  -- The letters among the entries.
-  pub letters_read : lettered (take n t'.kind) (length (take n t'.kind)) ≡ length (letters read_as.expression)
-  letters_read =
-      let x = read_as.expression in
-      let faultless = ap (λ (r : Refusal). r.number) (rows_refused_never x read_as.writable read_as.fits) in
-      ap (λ (xs : List ℕ). lettered xs (length xs)) (ap (λ (g : Table). g.kind) (filled_rows h read_as))
-      ∙ sym (tree_letters (well_formed (columns (rows 0 x)) faultless)) ∙ ap (λ (y : Expression). length (letters y)) (rows_tree x)
-
-  rows_built : {s s' : Shown} {rows' : Table} {expression : List ℕ} {answer : Counts}
-      → Built (filled_part (record { refusal = success; entries = n }) t') (beside s) answer (lent rows' expression s'.accepting s'.arcs)
-      → Built (columns (rows 0 read_as.expression)) (beside s) answer (lent rows' expression s'.accepting s'.arcs)
-  rows_built {s} {s'} {rows'} {expression} {answer} b =
-      subst (λ (g : Table). Built g (beside s) answer (lent rows' expression s'.accepting s'.arcs)) (filled_rows h read_as) b
-
   due : Due text entry_columns (read read_as.expression)
   due = subst (Due text entry_columns) read_as.is h.due
 
-  pub made_built : {s s' : Shown} {rows' : Table} {expression : List ℕ} {k x a m : ℕ} → m ≡ length (letters read_as.expression)
-      → Built (filled_part (record { refusal = success; entries = n }) t') (beside s) (some_counted k x a) (lent rows' expression s'.accepting s'.arcs)
-      → Made text s (record { refusal = success; entries = n; letters = m; states = k; expressions = x; arcs = a }) s'
-  unfolding needs
-  made_built {s} {s'} q b' = elim (ℕ_discrete (site_refusal read_as.expression s).number 0) [
-    | yes z ↦
-        let b = rows_built b' in
-        let c = counts_in read_as b z in
-        record {
-          reading = read read_as.expression;
-          due = due;
-          answers =
-              (λ i.
-              record { refusal = success; entries = counted i; letters = q i; states = (c i).states; expressions = (c i).expressions; arcs = (c i).arcs })
-              ∙ sym (answered_built read_as.expression s z);
-          leaves = stands_in read_as b z;
-        }
-    | no n' ↦ absurd (n' (sym (ap (λ (a : Counts). a.refusal.number) (none_in read_as (rows_built b') n'))))
-  ]
+  -- The builder has the part that is filled.
+  module _ {given : Table} (g : given ≡ filled_part (record { refusal = success; entries = n }) t') where
+    -- The letters among the entries.
+    letters_read : lettered given.kind (length given.kind) ≡ length (letters read_as.expression)
+    letters_read =
+        let x = read_as.expression in
+        let faultless = ap (λ (r : Refusal). r.number) (rows_refused_never x read_as.writable read_as.fits) in
+        ap (λ (xs : List ℕ). lettered xs (length xs)) (ap (λ (g : Table). g.kind) (g ∙ filled_rows h read_as))
+        ∙ sym (tree_letters (well_formed (columns (rows 0 x)) faultless)) ∙ ap (λ (y : Expression). length (letters y)) (rows_tree x)
 
-  pub made_refused : {s s' : Shown} {rows' : Table} {expression : List ℕ} {r : Refusal}
-      → Built (filled_part (record { refusal = success; entries = n }) t') (beside s) (none_counted r) (lent rows' expression s'.accepting s'.arcs)
-      → Made text s (withheld r) s'
-  made_refused {s} {s'} {r = r} b' = elim (ℕ_discrete (site_refusal read_as.expression s).number 0) [
-    | yes z ↦
-        let c = ap (λ (a : Counts). a.states) (counts_in read_as (rows_built b') z) in
-        let some = states_some read_as.expression in absurd (omega arith)
-    | no n' ↦
-        let b = rows_built b' in
-        record {
-          reading = read read_as.expression;
-          due = due;
-          answers = ap withheld (ap (λ (a : Counts). a.refusal) (none_in read_as b n')) ∙ sym (answered_refused read_as.expression s n');
-          leaves = blank_in read_as b n';
-        }
-  ]
+    module _ {s s' : Shown} {answer : Counts} (b : BuiltBeside given s answer s') where
+      rows_built : Built (columns (rows 0 read_as.expression)) (beside s) answer (lent b.rows b.expression s'.accepting s'.arcs)
+      rows_built =
+          subst (λ (g : Table). Built g (beside s) answer (lent b.rows b.expression s'.accepting s'.arcs)) (g ∙ filled_rows h read_as) b.built
+
+    pub made_built : {s s' : Shown} {k x a m : ℕ} → m ≡ lettered given.kind (length given.kind) → BuiltBeside given s (some_counted k x a) s'
+        → Made text s (record { refusal = success; entries = n; letters = m; states = k; expressions = x; arcs = a }) s'
+    unfolding needs
+    made_built {s} {s'} q b' = elim (ℕ_discrete (site_refusal read_as.expression s).number 0) [
+      | yes z ↦
+          let b = rows_built b' in
+          let c = counts_in read_as b z in
+          let l = q ∙ letters_read in
+          record {
+            reading = read read_as.expression;
+            due = due;
+            answers =
+                (λ i.
+                record { refusal = success; entries = counted i; letters = l i; states = (c i).states; expressions = (c i).expressions; arcs = (c i).arcs })
+                ∙ sym (answered_built read_as.expression s z);
+            leaves = stands_in read_as b z;
+          }
+      | no n' ↦ absurd (n' (sym (ap (λ (a : Counts). a.refusal.number) (none_in read_as (rows_built b') n'))))
+    ]
+
+    pub made_refused : {s s' : Shown} {r : Refusal} → BuiltBeside given s (none_counted r) s' → Made text s (withheld r) s'
+    made_refused {s} {s'} {r} b' = elim (ℕ_discrete (site_refusal read_as.expression s).number 0) [
+      | yes z ↦
+          let c = ap (λ (a : Counts). a.states) (counts_in read_as (rows_built b') z) in
+          let some = states_some read_as.expression in absurd (omega arith)
+      | no n' ↦
+          let b = rows_built b' in
+          record {
+            reading = read read_as.expression;
+            due = due;
+            answers = ap withheld (ap (λ (a : Counts). a.refusal) (none_in read_as b n')) ∙ sym (answered_refused read_as.expression s n');
+            leaves = blank_in read_as b n';
+          }
+    ]

@@ -2,6 +2,10 @@
 use native.Mathlib.Decide.{ℕ_discrete}
 use native.Mathlib.Omega.{arith}
 use mathlib.Core.Path.{◌≡◌, refl, sym, ap, ◌∙◌, subst}
+use mathlib.Core.Bool.{true, false, true≢false}
+use Rattle.std.specs.Prelude.{Result, Ok, Err}
+use Rattle.std.specs.Result.{is_err}
+use Rattle.theory.specs.Arcs.{ArcColumns}
 use Rattle.theory.specs.Expression.{Expression}
 use Rattle.theory.specs.Refusal.{Refusal}
 use Rattle.theory.specs.Language.{Word}
@@ -13,11 +17,11 @@ use Rattle.theory.proofs.Answers.{judgement_given, judgement_refused}
 use Rattle.theory.proofs.Handing.{given_some}
 use Rattle.theory.proofs.MatcherRefusal as matching
 use Rattle.theory.proofs.States.{states_some}
-use Rattle.matcher.specs.Answer.{values}
-use Rattle.matcher.specs.declared.Judgement as matched
-use Rattle.matcher.specs.declared.Judgement.TheVariants as judged
-use Rattle.site.specs.declared.Told.{Told}
-use Rattle.site.specs.Values.{spoken, kept_by, Settled}
+use Rattle.theory.proofs.Stated.{number_some}
+use Rattle.theory.specs.declared.refusal.Refusal.{Refusal as Refused}
+use Rattle.matcher.specs.Answer.{said, values}
+use Rattle.matcher.specs.declared.Verdict.{Verdict}
+use Rattle.matcher.specs.declared.Verdict.TheVariants.{Accepted, Unfinished, Wrong}
 use Rattle.theory.specs.Report.{Report, withheld, needs}
 use Rattle.site.specs.Site.{Shown, site_refusal, answered, blank, holding, left_in, Made}
 use Rattle.site.specs.Sited.{told, JudgesText}
@@ -121,16 +125,23 @@ module _ {text : Text} {w : Word} {s : Shown} {a : Report} {s₁ : Shown} (h : M
     cleared = j.cleared;
   }
 
-pub told_settled : {text : Text} {w : Word} {s s₁ s' : Shown} {a : Report} → Made text s a s₁ → a.refusal.number ≡ 0 → blank s₁ ≡ blank s
-    → {k k' : Work} (j : matched.Judgement) → Judged (handed a.states s₁.accepting a.arcs s₁.arcs) w k (values j) k'
-    → {answer : Told} → Settled j s₁ answer s' → JudgesText text w s k (spoken answer) s' k'
-told_settled {text} {w} {s} {s₁} {s'} {a} h z b {k} {k'} j d {answer} t =
-    subst (λ (x : Judgement). JudgesText text w s k x s' k') (sym t.answers)
-    (subst (λ (u : Shown). JudgesText text w s k (values j) u k') (sym t.leaves) (go j d))
-  where
-    go : (j : matched.Judgement) → Judged (handed a.states s₁.accepting a.arcs s₁.arcs) w k (values j) k'
-        → JudgesText text w s k (values j) (kept_by j s₁) k'
-    go (judged.Refused n) d = told_short h z d (refusal_number h z d refl) b
-    go (judged.Accepted l) d = told_built h z d refl
-    go (judged.Unfinished l) d = told_built h z d refl
-    go (judged.Wrong p) d = told_built h z d refl
+said_success : (v : Verdict) → (said v).refusal.number ≡ 0
+said_success (Accepted live) = refl
+said_success (Unfinished live) = refl
+said_success (Wrong place) = refl
+
+-- The matcher's answer, a verdict or a refusal, over the site's own columns.
+module _ {text : Text} {w : Word} {s s₁ : Shown} {a : Report} (h : Made text s a s₁) (z : a.refusal.number ≡ 0) {columns : ArcColumns}
+    (same : columns ≡ s₁.arcs) {k k' : Work} where
+  over_own : {answer : Judgement} → Judged (handed a.states s₁.accepting a.arcs columns) w k answer k' → Judged (handed a.states s₁.accepting a.arcs s₁.arcs) w k answer k'
+  over_own {answer} d = subst (λ (c : ArcColumns). Judged (handed a.states s₁.accepting a.arcs c) w k answer k') same d
+
+  pub told_verdict : (j : Result Verdict Refused) → false ≡ is_err j → Judged (handed a.states s₁.accepting a.arcs columns) w k (values j) k'
+      → JudgesText text w s k (values j) s₁ k'
+  told_verdict (Ok v) e d = told_built h z (over_own d) (said_success v)
+  told_verdict (Err r) e d = absurd (true≢false (sym e))
+
+  pub told_refusal : (j : Result Verdict Refused) → true ≡ is_err j → Judged (handed a.states s₁.accepting a.arcs columns) w k (values j) k' → {s' : Shown}
+      → s' ≡ blank s → JudgesText text w s k (values j) s' k'
+  told_refusal (Ok v) e d b = absurd (true≢false e)
+  told_refusal (Err r) e d b = told_short h z (over_own d) (number_some r.cause) b

@@ -1,4 +1,4 @@
--- The totals: what one report adds, by what it is; that they are sums over all texts; and that 64 bits hold those of 100,000.
+-- The totals are sums over all texts, and 64 bits hold those of 100,000.
 use Prim.Native.Nat.{ℕ, ◌+◌, ◌*◌, ◌%◌, ◌^◌, ◌<◌, ◌≤◌}
 use native.Mathlib.Nat.{one-mul, mul-suc, add_comm}
 use native.Mathlib.Omega.{arith}
@@ -16,30 +16,7 @@ use Rattle.theory.specs.Grammar.{Text, Reading, read, refused}
 use Rattle.theory.specs.Rooms
 use Rattle.theory.specs.Report.{Report, Totals, withheld, needs, too_large, reading, of_reading, report, those, sum, is_built, is_small, totals}
 use Rattle.theory.proofs.Tests.{and_right, or_left, or_right}
-use Rattle.site.specs.Values.{values}
 use Rattle.site.specs.Totals.{of_one, plus, with_report, Fits, HasEntry}
-use Rattle.site.specs.declared.Site.{Site}
-use Rattle.site.specs.declared.Site.TheVariants.{Refused, Built}
-
--- ---- What one text adds
-
-module _ {site : Site} where
-  pub adds_nothing : {n p : ℕ} → site ≡ Refused n p → HasEntry (values site)
-      → of_one (values site) ≡ record { built = 0; states = 0; powers = 0; few = 0 }
-  adds_nothing {n} {p} is told =
-      ap (λ (s : Site). of_one (values s)) is
-      ∙ rw (ne_eqb n 0 (λ e. let l = subst (λ (s : Site). HasEntry (values s)) is told e in omega arith), of_one)
-
-  module _ {n m q x a : ℕ} (is : site ≡ Built n m q x a) where
-    pub adds_states : 10 < m → of_one (values site) ≡ record { built = 1; states = q; powers = 0; few = 0 }
-    adds_states l = ap (λ (s : Site). of_one (values s)) is ∙ rw (le-ltb m 11 (omega arith), of_one)
-
-    pub adds_all : m ≤ 10 → of_one (values site) ≡ record { built = 1; states = q; powers = 2 ^ m; few = q }
-    adds_all l = ap (λ (s : Site). of_one (values s)) is ∙ rw (lt-ltb m 11 (omega arith), of_one)
-
--- A power of two by a shift.
-pub shifted : (m : ℕ) → m ≤ 10 → 1 * 2 ^ m % 18446744073709551616 ≡ 2 ^ m
-shifted m l = shl_exact 1 m 64 (omega arith) (omega arith) ∙ one-mul (2 ^ m)
 
 -- ---- Sums over all texts
 

@@ -4,11 +4,11 @@ use Rattle.theory.specs.Expression.{Expression}
 use Rattle.theory.specs.Refusal.{Refusal, refusal, success, columns_differ, room_small}
 use Rattle.theory.specs.Column.{zeros, filled}
 use Rattle.theory.specs.Automaton.{accepting, arcs}
-use Rattle.theory.specs.Arcs.{ArcColumns, arc_columns, even_arcs, no_arcs, filled_arcs}
+use Rattle.theory.specs.Arcs.{ArcColumns, even_arcs, no_arcs, filled_arcs}
 use Rattle.theory.specs.Table.{Table, table}
 use Rattle.theory.specs.Grammar.{Text, Reading, read, refused}
 use Rattle.theory.specs.Read.{Due}
-use Rattle.theory.specs.Build.{Lent, lent, over_room}
+use Rattle.theory.specs.Build.{Lent, lent, Counts, Built, over_room}
 use Rattle.theory.specs.Rooms
 use Rattle.theory.specs.Report.{Report, withheld, needs}
 
@@ -19,8 +19,8 @@ pub record Shown : Type 0 where
   pub accepting : List ℕ
   pub arcs : ArcColumns
 
-abbrev pub shown : List ℕ → List ℕ → List ℕ → List ℕ → Shown
-shown acc f l t = record { accepting = acc; arcs = arc_columns f l t }
+abbrev pub shown : List ℕ → ArcColumns → Shown
+shown acc a = record { accepting = acc; arcs = a }
 
 -- 01: "Both have rooms of 512 entries, 1,024 expressions, 512 states, 4,096 arcs."
 pub record InRooms (s : Shown) : Type 0 where
@@ -71,6 +71,12 @@ unfoldable pub left_in : Reading → Shown → Shown
 unfolding site_refusal holding
 left_in (read e) s = unless_refused (site_refusal e s) (holding e s) (blank s)
 left_in (refused r) s = blank s
+
+-- What `build` owes: what the builder owes, whatever it leaves in the columns that are not lent.
+pub record BuiltBeside (t : Table) (s : Shown) (answer : Counts) (s' : Shown) : Type 0 where
+  pub rows : Table
+  pub expression : List ℕ
+  pub built : Built t (beside s) answer (lent rows expression s'.accepting s'.arcs)
 
 -- What `automaton` owes: what is not read is refused as the reader refuses it, and what is read is built.
 pub record Made (text : Text) (s : Shown) (answer : Report) (s' : Shown) : Type 0 where

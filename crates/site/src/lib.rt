@@ -5,18 +5,30 @@
 pub mod totals;
 
 ghost use Rattle.std.specs.Prelude.{◌≡◌, length, get_or, eqb};
-ghost use Rattle.theory.specs.Kind;
+ghost use Rattle.theory.specs.Kind as numbers;
 ghost use Rattle.theory.specs.Below.{count_below};
-ghost use Rattle.theory.specs.Arcs.{arc_columns};
-ghost use Rattle.theory.specs.Record.{handed, work, LongEnough};
+ghost use Rattle.theory.specs.Table.{SameLengths};
+ghost use Rattle.theory.specs.Record.{LongEnough};
+ghost use Rattle.theory.specs.Build.{lent, Built};
+ghost use Rattle.columns.specs.Arcs.{lent_arcs, SameArcs};
+ghost use Rattle.columns.specs.Table.{read_table};
+ghost use Rattle.columns.specs.Work.{lent_work, SameWork};
+ghost use Rattle.builder.specs.Answer.{answer as counted};
 ghost use Rattle.matcher.specs.Answer.{values as judged};
-ghost use Rattle.site.specs.Site.{shown, blank, Made};
-ghost use Rattle.site.specs.Values.{values, spoken, Settled};
+ghost use Rattle.matcher.specs.Automaton.{handed_over};
+ghost use Rattle.site.specs.Site.{shown, beside, blank, BuiltBeside, Made};
+ghost use Rattle.site.specs.Values.{values};
 ghost use Rattle.site.specs.Sited.{Sited, JudgedOver, JudgesText};
 
-use builder::Building;
-use matcher::Judgement;
-use reader::Reading;
+use builder::Counts;
+use columns::arcs::ArcsMut;
+use columns::states::StatesMut;
+use columns::table::{Table, TableMut};
+use columns::work::Work;
+use matcher::Verdict;
+use matcher::automaton::Automaton;
+use theory::kind::Kind;
+use theory::refusal::Refusal;
 
 // 01: "Both have rooms of 512 entries, 1,024 expressions, 512 states, 4,096 arcs." The same numbers stand under the same names in
 // theory's specs/Rooms.antt.
@@ -28,190 +40,132 @@ pub const STATES: usize = 512;
 
 pub const ARCS: usize = 4096;
 
-// What a text comes to. Letters are counted with repeats.
-#[derive(Clone, Copy)]
-pub enum Site {
-    Refused {
-        number: u8,
-        place: usize,
-    },
-    Built {
-        entries: usize,
-        letters: usize,
-        states: usize,
-        expressions: usize,
-        arcs: usize,
-    },
+// What a text is built into. Letters are counted with repeats.
+#[derive(Clone, Copy, PartialEq, Eq)]
+pub struct Site {
+    pub entries: usize,
+    pub letters: usize,
+    pub states: usize,
+    pub expressions: usize,
+    pub arcs: usize,
 }
 
-// The automaton of a written expression: read, and built where it is read. Entries, expressions and what the states name are looked at by no
-// program, and are not lent; the rooms for arcs are the columns' own.
-pub fn automaton(
-    text: &[u8],
-    accepting: &mut [u8],
-    from: &mut [u16],
-    letter: &mut [u8],
-    to: &mut [u16],
-) -> Site
-    ensures { Made text.now (shown accepting.old from.old letter.old to.old) (values result)
-        (shown accepting.new from.new letter.new to.new) }
+// The automaton of a written expression: read, and built where it is read. Entries are looked at by no program, and are not lent.
+pub fn automaton(text: &[u8], accepting: &mut [u8], arcs: &mut ArcsMut<'_>) -> Result<Site, Refusal>
+    ensures same { SameArcs arcs.old arcs.new }
+    ensures made { Made text.now (shown accepting.old (lent_arcs arcs.old)) (values result)
+        (shown accepting.new (lent_arcs arcs.new)) }
 {
     let mut kind = [0u8; ENTRIES];
     let mut left = [0u16; ENTRIES];
     let mut right = [0u16; ENTRIES];
-    let mut xkind = [0u8; EXPRESSIONS];
-    let mut xleft = [0u16; EXPRESSIONS];
-    let mut xright = [0u16; EXPRESSIONS];
+    let mut table = TableMut {
+        kind: &mut kind,
+        left: &mut left,
+        right: &mut right,
+    };
+    let entries = match reader::read(text, &mut table) {
+        Ok(entries) => entries,
+        Err(refusal) => {
+            clear(accepting, arcs);
+            return Err(refusal);
+        }
+    };
+    let read = table.view().first(entries);
+    let counts = build(read, accepting, arcs)?;
+    Ok(Site {
+        entries,
+        letters: letters(read.kind),
+        states: counts.states,
+        expressions: counts.expressions,
+        arcs: counts.arcs,
+    })
+}
+
+// The automaton of a table. Expressions and what the states name are looked at by no program, and are not lent; the rooms for arcs are the
+// columns' own.
+fn build(given: Table<'_>, accepting: &mut [u8], arcs: &mut ArcsMut<'_>) -> Result<Counts, Refusal>
+    ensures same { SameArcs arcs.old arcs.new }
+    ensures built { BuiltBeside (read_table given.entry) (shown accepting.old (lent_arcs arcs.old)) (counted result)
+        (shown accepting.new (lent_arcs arcs.new)) }
+{
+    let mut kind = [0u8; EXPRESSIONS];
+    let mut left = [0u16; EXPRESSIONS];
+    let mut right = [0u16; EXPRESSIONS];
     let mut expression = [0u16; STATES];
-    match reader::read(text, &mut kind, &mut left, &mut right) {
-        Reading::Refused { number, place } => {
-            clear(accepting, from, letter, to);
-            Site::Refused { number, place }
-        }
-        Reading::Read { entries } => {
-            let letters = letters(&kind[..entries]);
-            match builder::build(
-                &kind[..entries],
-                &left[..entries],
-                &right[..entries],
-                &mut xkind,
-                &mut xleft,
-                &mut xright,
-                &mut expression,
-                accepting,
-                from,
-                letter,
-                to,
-            ) {
-                Building::Refused { number, place } => Site::Refused { number, place },
-                Building::Built {
-                    states,
-                    expressions,
-                    arcs,
-                } => Site::Built {
-                    entries,
-                    letters,
-                    states,
-                    expressions,
-                    arcs,
-                },
-            }
-        }
-    }
+    let mut rows = TableMut {
+        kind: &mut kind,
+        left: &mut left,
+        right: &mut right,
+    };
+    let mut states = StatesMut {
+        expression: &mut expression,
+        accepting,
+    };
+    builder::build(given, &mut rows, &mut states, arcs)
 }
 
 // 01: "sets all lent output and work columns to zero".
-fn clear(accepting: &mut [u8], from: &mut [u16], letter: &mut [u8], to: &mut [u16])
-    ensures { shown accepting.new from.new letter.new to.new
-        ≡ blank (shown accepting.old from.old letter.old to.old) }
+fn clear(accepting: &mut [u8], arcs: &mut ArcsMut<'_>)
+    ensures same { SameArcs arcs.old arcs.new }
+    ensures cleared { shown accepting.new (lent_arcs arcs.new) ≡ blank (shown accepting.old (lent_arcs arcs.old)) }
 {
-    columns::clear8(accepting);
-    columns::clear16(from);
-    columns::clear8(letter);
-    columns::clear16(to);
+    accepting.fill(0);
+    arcs.clear();
 }
 
 // 2026-01: the entries that are letters.
-#[tactic(auto, using(crate::proofs::Counting::letter_more, crate::proofs::Counting::other_more))]
 fn letters(kind: &[u8]) -> usize
-    ensures { result ≡ count_below (length kind.now) (λ i. eqb (get_or kind.now i 0) Kind.letter) }
+    ensures { result ≡ count_below (length kind.now) (λ i. eqb (get_or kind.now i 0) numbers.letter) }
 {
-    let mut n = 0;
-    for i in 0..kind.len() {
-        if kind[i] == theory::kind::LETTER {
-            n += 1;
-        }
-    }
-    n
+    let letter = Kind::Letter.number();
+    kind.iter().filter(|k| **k == letter).count()
 }
 
 // A record over the automaton that a text was made into.
 pub fn verdict(
     text: &[u8],
-    states: usize,
-    accepting: &[u8],
-    arcs: usize,
-    from: &[u16],
-    letter: &[u8],
-    to: &[u16],
+    automaton: Automaton<'_>,
     record: &[u8],
-    current: &mut [u64],
-    next: &mut [u64],
-) -> Judgement
-    requires sited { Sited text.now (handed states accepting.now arcs (arc_columns from.now letter.now to.now)) }
-    requires long_enough { LongEnough (work current.old next.old) states }
-    ensures { JudgedOver text.now «record».now (work current.old next.old) (judged result)
-        (work current.new next.new) }
+    work: &mut Work<'_>,
+) -> Result<Verdict, Refusal>
+    requires sited { Sited text.now (handed_over automaton) }
+    requires long_enough { LongEnough (lent_work work.old) automaton.states }
+    ensures same { SameWork work.old work.new }
+    ensures judged { JudgedOver text.now «record».now (lent_work work.old) (judged result) (lent_work work.new) }
 {
-    matcher::judge(
-        states, accepting, arcs, from, letter, to, record, current, next,
-    )
-}
-
-// What a text and a record come to.
-#[derive(Drop)]
-pub enum Told {
-    Refused { number: u8, place: usize },
-    Accepted { live: usize },
-    Unfinished { live: usize },
-    Wrong { place: usize },
+    matcher::judge(automaton, record, work)
 }
 
 // The three calls as one: from a text and a record to the verdict. 11 counts against the lent work columns.
-pub fn judge(
+pub fn judge<'a>(
     text: &[u8],
     record: &[u8],
-    accepting: &mut [u8],
-    from: &mut [u16],
-    letter: &mut [u8],
-    to: &mut [u16],
-    current: &mut [u64],
-    next: &mut [u64],
-) -> Told
-    ensures { JudgesText text.now «record».now
-        (shown accepting.old from.old letter.old to.old) (work current.old next.old)
-        (spoken result) (shown accepting.new from.new letter.new to.new)
-        (work current.new next.new) }
+    accepting: &'a mut [u8],
+    arcs: &'a mut ArcsMut<'_>,
+    work: &mut Work<'_>,
+) -> Result<Verdict, Refusal>
+    ensures same_arcs { SameArcs arcs.old arcs.new }
+    ensures same_work { SameWork work.old work.new }
+    ensures judged { JudgesText text.now «record».now (shown accepting.old (lent_arcs arcs.old)) (lent_work work.old)
+        (judged result) (shown accepting.new (lent_arcs arcs.new)) (lent_work work.new) }
 {
-    match automaton(text, accepting, from, letter, to) {
-        Site::Refused { number, place } => {
-            columns::clear64(current);
-            columns::clear64(next);
-            Told::Refused { number, place }
+    let site = match automaton(text, accepting, arcs) {
+        Ok(site) => site,
+        Err(refusal) => {
+            work.clear();
+            return Err(refusal);
         }
-        Site::Built {
-            entries: _,
-            letters: _,
-            states,
-            expressions: _,
-            arcs,
-        } => {
-            let judgement = matcher::judge(
-                states, accepting, arcs, from, letter, to, record, current, next,
-            );
-            settle(judgement, accepting, from, letter, to)
-        }
+    };
+    let automaton = Automaton {
+        states: site.states,
+        accepting,
+        arc_count: site.arcs,
+        arcs: arcs.view(),
+    };
+    let answer = matcher::judge(automaton, record, work);
+    if answer.is_err() {
+        clear(accepting, arcs);
     }
-}
-
-// The matcher's answer, and nothing lent where it is a refusal.
-fn settle(
-    judgement: Judgement,
-    accepting: &mut [u8],
-    from: &mut [u16],
-    letter: &mut [u8],
-    to: &mut [u16],
-) -> Told
-    ensures { Settled judgement (shown accepting.old from.old letter.old to.old) result
-        (shown accepting.new from.new letter.new to.new) }
-{
-    match judgement {
-        Judgement::Refused { number } => {
-            clear(accepting, from, letter, to);
-            Told::Refused { number, place: 0 }
-        }
-        Judgement::Accepted { live } => Told::Accepted { live },
-        Judgement::Unfinished { live } => Told::Unfinished { live },
-        Judgement::Wrong { place } => Told::Wrong { place },
-    }
+    answer
 }

@@ -5,8 +5,9 @@ ghost use Rattle.site.specs.Values.{values as reported};
 ghost use Rattle.site.specs.Totals.{values, of_one, with_report, Fits, HasEntry};
 
 use crate::Site;
+use theory::refusal::Refusal;
 
-#[derive(Clone, Copy)]
+#[derive(Clone, Copy, PartialEq, Eq, Default)]
 pub struct Totals {
     pub built: u64,
     pub states: u64,
@@ -17,68 +18,48 @@ pub struct Totals {
 pub fn none() -> Totals
     ensures { values result ≡ record { built = 0; states = 0; powers = 0; few = 0 } }
 {
-    Totals {
-        built: 0,
-        states: 0,
-        powers: 0,
-        few: 0,
-    }
+    Totals::default()
 }
 
 // "m at most 10"
 const SMALL: usize = 10;
 
 // What one text adds.
-fn of_one(site: Site) -> Totals
+fn of_one(site: Result<Site, Refusal>) -> Totals
     requires { HasEntry (reported site) }
     ensures { values result ≡ of_one (reported site) }
 {
-    match site {
-        Site::Refused {
-            number: _,
-            place: _,
-        } => Totals {
-            built: 0,
-            states: 0,
-            powers: 0,
-            few: 0,
-        },
-        Site::Built {
-            entries: _,
-            letters,
+    let Ok(site) = site else {
+        return none();
+    };
+    let states = site.states as u64;
+    if site.letters > SMALL {
+        return Totals {
+            built: 1,
             states,
-            expressions: _,
-            arcs: _,
-        } => {
-            let states = states as u64;
-            if letters > SMALL {
-                return Totals {
-                    built: 1,
-                    states,
-                    powers: 0,
-                    few: 0,
-                };
-            }
-            Totals {
-                built: 1,
-                states,
-                powers: 1u64 << letters,
-                few: states,
-            }
-        }
+            ..none()
+        };
+    }
+    Totals {
+        built: 1,
+        states,
+        powers: 1u64 << site.letters,
+        few: states,
     }
 }
 
-// The totals with what one more text came to.
-pub fn with(totals: Totals, site: Site) -> Totals
-    requires { HasEntry (reported site) × Fits (with_report (values totals) (reported site)) }
-    ensures { values result ≡ with_report (values totals) (reported site) }
-{
-    let one = of_one(site);
-    Totals {
-        built: totals.built + one.built,
-        states: totals.states + one.states,
-        powers: totals.powers + one.powers,
-        few: totals.few + one.few,
+impl Totals {
+    // The totals with what one more text came to.
+    pub fn with(self, site: Result<Site, Refusal>) -> Totals
+        requires { HasEntry (reported site) × Fits (with_report (values self) (reported site)) }
+        ensures { values result ≡ with_report (values self) (reported site) }
+    {
+        let one = of_one(site);
+        Totals {
+            built: self.built + one.built,
+            states: self.states + one.states,
+            powers: self.powers + one.powers,
+            few: self.few + one.few,
+        }
     }
 }

@@ -1,7 +1,11 @@
--- `letters` counts the entries of the kind. What a turn adds is left to the check, which has the laws for it.
-use Rattle.std.proofs.Common.{arith}
-use Rattle.site.proofs.Counting.{letters_none}
+-- `letters` counts the entries of the kind.
+use Rattle.std.proofs.Common.{rules, ◌≡◌, ◌∙◌, eqb}
+use Rattle.std.specs.Prelude.{count_by}
+use Rattle.theory.specs.Kind as numbers
+use Rattle.site.proofs.Counting.{letters_counted}
 use Rattle.site.proofs.letters.Goals as goal
 
-pub loop-i-init : goal.loop-i-init
-loop-i-init c = (letters_none c.args.kind.now, omega arith, omega arith)
+pub returns : goal.returns
+returns c =
+    let counted : c.count.result ≡ count_by (λ k. eqb k numbers.letter) c.args.kind.now = search rules in
+    counted ∙ letters_counted c.args.kind.now
