@@ -69,6 +69,7 @@ verdict_of : Judgement → Verdict
 verdict_of a = cond (eqb a.verdict 1) (Accepted a.live) (cond (eqb a.verdict 2) (Unfinished a.live) (Wrong a.place))
 
 pub judges_apart : (a b : Result Verdict Refused) → values a ≡ values b → a ≡ b
+unfolding verdict_of
 judges_apart = told_once values (λ x. x.refusal) verdict_of fine (λ r. refl) back
   where
     fine : (v : Verdict) → (said v).refusal ≡ success
@@ -77,7 +78,6 @@ judges_apart = told_once values (λ x. x.refusal) verdict_of fine (λ r. refl) b
     fine (Wrong p) = refl
 
     back : (v : Verdict) → verdict_of (said v) ≡ v
-    unfolding verdict_of
     back (Accepted n) = refl
     back (Unfinished n) = refl
     back (Wrong p) = refl

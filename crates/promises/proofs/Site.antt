@@ -199,10 +199,10 @@ judged_once {text} {w} {s} {k} {a} {b} {s'} {s''} h j = (answers, columns (ℕ_d
     columns (no n) = h.blank n ∙ sym (j.blank (λ z. n (number ∙ z)))
 
 sites_apart : (a b : Result Site Refused) → values a ≡ values b → a ≡ b
-sites_apart = told_once values (λ x. x.refusal) site_of (λ v. refl) (λ r. refl) (λ v. refl)
-  where
-    abbrev site_of : Report → Site
-    site_of x = record { entries = x.entries; letters = x.letters; states = x.states; expressions = x.expressions; arcs = x.arcs }
+sites_apart =
+    told_once values (λ x. x.refusal)
+    (λ x. record { entries = x.entries; letters = x.letters; states = x.states; expressions = x.expressions; arcs = x.arcs }) (λ v. refl)
+    (λ r. refl) (λ v. refl)
 
 pub site_once : SiteOnce
 site_once = record {

@@ -15,7 +15,7 @@ use Rattle.site.specs.Site.{Shown, entry_columns, beside, blank, Made}
 use Rattle.site.specs.Values.{values}
 use Rattle.site.specs.Sited.{JudgesText}
 use Rattle.site.specs.declared.Site.{Site}
-use Rattle.matcher.specs.Answer.{values as judged}
+use Rattle.matcher.specs.Answer as matcher
 use Rattle.matcher.specs.declared.Verdict.{Verdict}
 use Rattle.promises.specs.Reader.{ReaderCause, Written}
 use Rattle.promises.specs.Matcher.{TooShort}
@@ -66,4 +66,4 @@ pub record SiteOnce : Type 0 where
   -- The same of the answers as the calls return them.
   pub sites : {text : Text} {s : Shown} (a b : Result Site Refused) {s' s'' : Shown} → Made text s (values a) s' → Made text s (values b) s'' → a ≡ b
   pub tells : {text : Text} {w : Word} {s : Shown} {k : Work} (a b : Result Verdict Refused) {s' s'' : Shown} {k' k'' : Work}
-      → JudgesText text w s k (judged a) s' k' → JudgesText text w s k (judged b) s'' k'' → a ≡ b
+      → JudgesText text w s k (matcher.values a) s' k' → JudgesText text w s k (matcher.values b) s'' k'' → a ≡ b

@@ -18,6 +18,7 @@ use Rattle.theory.proofs.TableRefusal.{refused_differ, refused_empty, refused_lo
 use Rattle.theory.proofs.Times.{fault_none, fault_found, once_of}
 use Rattle.theory.proofs.FirstFound.{Scanned, clean, faulty, scanned, scanned_once}
 use Rattle.theory.proofs.WellFormed.{smaller_of}
+use Rattle.std.specs.Prelude.{Result}
 use Rattle.theory.specs.Stated.{refusal_in}
 use Rattle.theory.specs.declared.refusal.Refusal.{Refusal as Refused}
 use Rattle.promises.proofs.Tested.{fits, tested, known, children_are}
