@@ -1,40 +1,33 @@
--- What a call by way of the host owes when there are enough numbers for the counts, and where a refusal can stand.
-use Prim.Native.Nat.{ℕ, ◌≤◌, ◌<◌}
+-- Where a refusal can stand, and the counts of a refusal, which are zero: as many as there are.
+use Prim.Native.Nat.{ℕ, suc, ◌-◌, ◌≤◌, ◌<◌}
 use native.Mathlib.Decide.{ℕ_discrete}
 use native.Mathlib.Omega.{arith}
-use mathlib.Core.Path.{◌≡◌, ap}
-use mathlib.Core.List.{List}
-use lib.ListN.{length}
+use mathlib.Core.Path.{◌≡◌, ap, ◌∙◌}
+use mathlib.Core.List.{[], ◌∷◌}
+use Rattle.std.specs.Prelude.{Err}
 use Rattle.theory.specs.Limit.{most_entries}
-use Rattle.theory.specs.Refusal.{Refusal}
-use Rattle.theory.specs.Column.{filled}
+use Rattle.theory.specs.Column.{zeros, filled}
 use Rattle.theory.specs.Table.{Table}
 use Rattle.theory.specs.Grammar.{Text}
+use Rattle.theory.specs.Language.{Word}
 use Rattle.theory.specs.Read.{Entered, Read}
 use Rattle.theory.specs.Build.{Lent, Counts, counts, Built, build_refusal}
-use Rattle.theory.proofs.Answers.{counts_built, counts_refused}
+use Rattle.theory.specs.Record.{Handed, Work, Verdict, accepted, unfinished, wrong, verdict, live, matcher_refusal}
+use Rattle.theory.specs.Judge.{Judgement, given, judgement, Judged}
+use Rattle.theory.specs.declared.refusal.Refusal.{Refusal}
+use Rattle.theory.proofs.Answers.{counts_built, counts_refused, judgement_given, judgement_refused}
+use Rattle.theory.proofs.MatcherRefusal.{place_zero}
 use Rattle.theory.proofs.Places.{reader_place, builder_place}
-use Rattle.reader.specs.declared.Reading.{Reading}
-use Rattle.reader.specs.declared.Reading.TheVariants as reading
 use Rattle.reader.specs.Answer.{answer as entered_of}
-use Rattle.builder.specs.declared.Building.{Building}
-use Rattle.builder.specs.declared.Building.TheVariants as building
 use Rattle.builder.specs.Answer.{answer as counts_of}
-use Rattle.host.specs.Host.{packed, fewest_counts, Hosted}
+use Rattle.matcher.specs.Answer.{values}
 
-module _ {A : Type 0} {refusal_of : A → Refusal} {numbers : A → List ℕ} {Owes : A → Type 0} {Zero : Type 0} {counts : List ℕ} {r : ℕ}
-    {counts' : List ℕ} where
-  pub hosted : fewest_counts ≤ length counts → (a : A) → Owes a → r ≡ packed (refusal_of a) → counts' ≡ filled (length counts) (numbers a)
-      → Hosted refusal_of numbers Owes Zero counts r counts'
-  hosted l a o e k = record { few = λ m. absurd (omega arith); enough = λ m. (a, o, e, k) }
+pub no_counts : (n : ℕ) → 4 ≤ n → zeros n ≡ filled n (0 ∷ 0 ∷ 0 ∷ [])
+no_counts n l = ap zeros (let k : n ≡ suc (suc (suc (n - 3))) = omega arith in k)
 
--- ---- Where a refusal can stand
-
-module _ {text : Text} {t t' : Table} {x : Reading} (h : Read text t (entered_of x) t') where
-  pub reads_place : {n p : ℕ} → x ≡ reading.Refused n p → p < 4294967296
-  reads_place e =
-      let l = reader_place h.due in
-      omega (arith, ap (λ (y : Reading). (entered_of y).refusal.place) e, ap (λ (a : Entered). a.refusal.place) h.answers)
+module _ {text : Text} {t t' : Table} (r : Refusal) where
+  pub reads_place : Read text t (entered_of (Err r)) t' → r.place < 4294967296
+  reads_place h = let l = reader_place h.due in omega (arith, ap (λ (a : Entered). a.refusal.place) h.answers)
 
 counts_place : (g : Table) (c : Lent) → (counts g c).refusal.place ≤ most_entries
 counts_place g c = go (ℕ_discrete (build_refusal g c).number 0)
@@ -43,8 +36,22 @@ counts_place g c = go (ℕ_discrete (build_refusal g c).number 0)
     go (yes z) = omega (arith, ap (λ (a : Counts). a.refusal.place) (counts_built g c z))
     go (no n) = let l = builder_place g c in omega (arith, ap (λ (a : Counts). a.refusal.place) (counts_refused g c n))
 
-module _ {g : Table} {c c' : Lent} {x : Building} (h : Built g c (counts_of x) c') where
-  pub builds_place : {n p : ℕ} → x ≡ building.Refused n p → p < 4294967296
-  builds_place e =
-      let l = counts_place g c in
-      omega (arith, ap (λ (y : Building). (counts_of y).refusal.place) e, ap (λ (a : Counts). a.refusal.place) h.answers)
+module _ {g : Table} {c c' : Lent} (r : Refusal) where
+  pub builds_place : Built g c (counts_of (Err r)) c' → r.place < 4294967296
+  builds_place h = let l = counts_place g c in omega (arith, ap (λ (a : Counts). a.refusal.place) h.answers)
+
+judgement_place : (h : Handed) (k : Work) (w : Word) → (judgement h k w).refusal.place ≡ 0
+judgement_place h k w = go (ℕ_discrete (matcher_refusal h k).number 0)
+  where
+    go : Dec ((matcher_refusal h k).number ≡ 0) → (judgement h k w).refusal.place ≡ 0
+    go (yes z) = by_verdict (verdict h w) (judgement_given h k w z)
+      where
+        by_verdict : (v : Verdict) → judgement h k w ≡ given v (live h w) → (judgement h k w).refusal.place ≡ 0
+        by_verdict accepted e = ap (λ (a : Judgement). a.refusal.place) e
+        by_verdict unfinished e = ap (λ (a : Judgement). a.refusal.place) e
+        by_verdict (wrong p) e = ap (λ (a : Judgement). a.refusal.place) e
+    go (no n) = ap (λ (a : Judgement). a.refusal.place) (judgement_refused h k w n) ∙ place_zero h k
+
+module _ {h : Handed} {w : Word} {k k' : Work} (r : Refusal) where
+  pub judges_place : Judged h w k (values (Err r)) k' → r.place < 4294967296
+  judges_place j = omega (arith, judgement_place h k w, ap (λ (a : Judgement). a.refusal.place) j.answers)

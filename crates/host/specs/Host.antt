@@ -38,6 +38,9 @@ HostBuilds g c counts r c' counts' =
     Hosted (λ (a : Counts). a.refusal) (λ a. a.states ∷ a.expressions ∷ a.arcs ∷ []) (λ a. Built g c a c') (Cleared c c') counts r counts'
 
 -- "or for the matcher the verdict (1 accepted, 2 unfinished, 3 wrong), its place (0 unless wrong) and live"
+abbrev pub numbers_of : Judgement → List ℕ
+numbers_of a = a.verdict ∷ a.place ∷ a.live ∷ []
+
 abbrev pub HostJudges : Handed → Word → Work → List ℕ → ℕ → Work → List ℕ → Type 0
 HostJudges h w k counts r k' counts' =
-    Hosted (λ (a : Judgement). a.refusal) (λ a. a.verdict ∷ a.place ∷ a.live ∷ []) (λ a. Judged h w k a k') (k' ≡ rested k) counts r counts'
+    Hosted (λ (a : Judgement). a.refusal) numbers_of (λ a. Judged h w k a k') (k' ≡ rested k) counts r counts'

@@ -2,88 +2,98 @@
 
 #![tactic(auto)]
 
-ghost use Rattle.std.specs.Prelude.{◌≡◌, ◌≤◌, ◌<◌, length, get_or};
-ghost use Rattle.theory.specs.Refusal.{refusal, success};
+ghost use Rattle.std.specs.Prelude.{◌≡◌, ◌≤◌, ◌<◌, ◌∷◌, [], length};
+ghost use Rattle.theory.specs.Stated.{stated};
+ghost use Rattle.theory.specs.Refusal.{success};
 ghost use Rattle.theory.specs.Column.{zeros, filled};
 ghost use Rattle.theory.specs.Table.{table};
 ghost use Rattle.theory.specs.Arcs.{arc_columns};
 ghost use Rattle.theory.specs.Build.{lent};
 ghost use Rattle.theory.specs.Record.{handed, work};
-ghost use Rattle.host.specs.Host.{packed, HostReads, HostBuilds, HostJudges};
+ghost use Rattle.matcher.specs.Answer.{said};
+ghost use Rattle.host.specs.Host.{packed, numbers_of, HostReads, HostBuilds, HostJudges};
 
-use builder::Building;
-use matcher::Judgement;
-use reader::Reading;
+use columns::arcs::{Arcs, ArcsMut};
+use columns::states::StatesMut;
+use columns::table::{Table, TableMut};
+use columns::work::Work;
+use matcher::Verdict;
+use matcher::automaton::Automaton;
+use theory::refusal::{Cause, Refusal};
 
 // "23, that slice has fewer than 4 numbers"
 const COUNTS: usize = 4;
 
-// "the verdict (1 accepted, 2 unfinished, 3 wrong)"
-const ACCEPTED: u64 = 1;
-
-const UNFINISHED: u64 = 2;
-
-const WRONG: u64 = 3;
-
-// The number at i, and zero where there are no more.
-fn number_at(values: &[u64], i: usize) -> u64
-    ensures { result ≡ get_or values.now i 0 }
-{
-    if i < values.len() { values[i] } else { 0 }
-}
+const COUNTS_FEW: Refusal = Refusal {
+    cause: Cause::CountsFew,
+    place: 0,
+};
 
 // "receives the counts .. with zero in the rest". 01: "Success is 0 with place 0."
 fn told(counts: &mut [u64], values: &[u64]) -> u64
     requires { length values.now ≤ length counts.old }
     ensures { (result ≡ packed success) × (counts.new ≡ filled (length counts.old) values.now) }
 {
-    for i in 0..counts.len() {
-        counts[i] = number_at(values, i);
-    }
+    counts.fill(0);
+    counts[..values.len()].copy_from_slice(values);
     0
 }
 
 // A refusal has no count; it is "number times 2^32 plus place".
-fn refused(counts: &mut [u64], number: u8, place: usize) -> u64
-    requires { place < 4294967296 }
-    ensures { (result ≡ packed (refusal number place)) × (counts.new ≡ zeros (length counts.old)) }
+fn refused(counts: &mut [u64], refusal: Refusal) -> u64
+    requires { refusal.place < 4294967296 }
+    ensures { (result ≡ packed (stated refusal)) × (counts.new ≡ zeros (length counts.old)) }
 {
     told(counts, &[]);
-    number as u64 * 4294967296 + place as u64
+    refusal.cause.number() as u64 * 4294967296 + refusal.place as u64
 }
 
-pub fn gumpaleri_read(
+// "the verdict (1 accepted, 2 unfinished, 3 wrong), its place (0 unless wrong) and live"
+fn numbers(verdict: Verdict) -> [u64; 3]
+    ensures { result ≡ numbers_of (said verdict) }
+{
+    match verdict {
+        Verdict::Accepted { live } => [1, 0, live as u64],
+        Verdict::Unfinished { live } => [2, 0, live as u64],
+        Verdict::Wrong { place } => [3, place as u64, 0],
+    }
+}
+
+#[tactic(auto, using(crate::proofs::Hosting::reads_place))]
+pub fn gumpaleri_read<'a>(
     text: &[u8],
-    kind: &mut [u8],
-    left: &mut [u16],
-    right: &mut [u16],
+    kind: &'a mut [u8],
+    left: &'a mut [u16],
+    right: &'a mut [u16],
     counts: &mut [u64],
 ) -> u64
     ensures { HostReads text.now (table kind.old left.old right.old) counts.old result
         (table kind.new left.new right.new) counts.new }
 {
+    let mut table = TableMut { kind, left, right };
     if counts.len() < COUNTS {
-        columns::clear_table(kind, left, right);
-        return refused(counts, theory::refusal::COUNTS_FEW, 0);
+        table.clear();
+        return refused(counts, COUNTS_FEW);
     }
-    match reader::read(text, kind, left, right) {
-        Reading::Refused { number, place } => refused(counts, number, place),
-        Reading::Read { entries } => told(counts, &[entries as u64]),
+    match reader::read(text, &mut table) {
+        Ok(entries) => told(counts, &[entries as u64]),
+        Err(refusal) => refused(counts, refusal),
     }
 }
 
-pub fn gumpaleri_build(
-    kind: &[u8],
-    left: &[u16],
-    right: &[u16],
-    xkind: &mut [u8],
-    xleft: &mut [u16],
-    xright: &mut [u16],
-    expression: &mut [u16],
-    accepting: &mut [u8],
-    from: &mut [u16],
-    letter: &mut [u8],
-    to: &mut [u16],
+#[tactic(auto, using(crate::proofs::Hosting::no_counts))]
+pub fn gumpaleri_build<'a>(
+    kind: &'a [u8],
+    left: &'a [u16],
+    right: &'a [u16],
+    xkind: &'a mut [u8],
+    xleft: &'a mut [u16],
+    xright: &'a mut [u16],
+    expression: &'a mut [u16],
+    accepting: &'a mut [u8],
+    from: &'a mut [u16],
+    letter: &'a mut [u8],
+    to: &'a mut [u16],
     counts: &mut [u64],
 ) -> u64
     ensures { HostBuilds (table kind.now left.now right.now)
@@ -94,50 +104,61 @@ pub fn gumpaleri_build(
         (arc_columns from.new letter.new to.new))
         counts.new }
 {
+    let mut rows = TableMut {
+        kind: xkind,
+        left: xleft,
+        right: xright,
+    };
+    let mut states = StatesMut {
+        expression,
+        accepting,
+    };
+    let mut arcs = ArcsMut { from, letter, to };
     if counts.len() < COUNTS {
-        builder::clear(
-            xkind, xleft, xright, expression, accepting, from, letter, to,
-        );
-        return refused(counts, theory::refusal::COUNTS_FEW, 0);
+        builder::clear(&mut rows, &mut states, &mut arcs);
+        return refused(counts, COUNTS_FEW);
     }
-    match builder::build(
-        kind, left, right, xkind, xleft, xright, expression, accepting, from, letter, to,
-    ) {
-        Building::Refused { number, place } => refused(counts, number, place),
-        Building::Built {
-            states,
-            expressions,
-            arcs,
-        } => told(counts, &[states as u64, expressions as u64, arcs as u64]),
+    let given = Table { kind, left, right };
+    match builder::build(given, &mut rows, &mut states, &mut arcs) {
+        Ok(n) => told(
+            counts,
+            &[n.states as u64, n.expressions as u64, n.arcs as u64],
+        ),
+        Err(refusal) => refused(counts, refusal),
     }
 }
 
-pub fn gumpaleri_judge(
+#[tactic(auto, using(crate::proofs::Hosting::no_counts))]
+pub fn gumpaleri_judge<'a>(
     states: usize,
-    accepting: &[u8],
+    accepting: &'a [u8],
     arcs: usize,
-    from: &[u16],
-    letter: &[u8],
-    to: &[u16],
+    from: &'a [u16],
+    letter: &'a [u8],
+    to: &'a [u16],
     record: &[u8],
-    current: &mut [u64],
-    next: &mut [u64],
+    current: &'a mut [u64],
+    next: &'a mut [u64],
     counts: &mut [u64],
 ) -> u64
     ensures { HostJudges (handed states accepting.now arcs (arc_columns from.now letter.now to.now))
         «record».now (work current.old next.old) counts.old result
         (work current.new next.new) counts.new }
 {
+    let mut work = Work { current, next };
     if counts.len() < COUNTS {
-        matcher::clear(current, next);
-        return refused(counts, theory::refusal::COUNTS_FEW, 0);
+        work.clear();
+        return refused(counts, COUNTS_FEW);
     }
-    match matcher::judge(
-        states, accepting, arcs, from, letter, to, record, current, next,
-    ) {
-        Judgement::Refused { number } => refused(counts, number, 0),
-        Judgement::Accepted { live } => told(counts, &[ACCEPTED, 0, live as u64]),
-        Judgement::Unfinished { live } => told(counts, &[UNFINISHED, 0, live as u64]),
-        Judgement::Wrong { place } => told(counts, &[WRONG, place as u64, 0]),
+    let columns = Arcs { from, letter, to };
+    let automaton = Automaton {
+        states,
+        accepting,
+        arc_count: arcs,
+        arcs: columns,
+    };
+    match matcher::judge(automaton, record, &mut work) {
+        Ok(verdict) => told(counts, &numbers(verdict)),
+        Err(refusal) => refused(counts, refusal),
     }
 }

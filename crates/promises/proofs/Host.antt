@@ -1,6 +1,6 @@
 -- The host's three functions: the packing is undone, the customer's first demand holds of what C is answered, and two results that meet a contract
 -- are the same. Leans on the causes of the three calls and on `Once`.
-use Prim.Native.Nat.{ℕ, ◌≤◌, ◌<◌}
+use Prim.Native.Nat.{ℕ, suc, ◌-◌, ◌≤◌, ◌<◌}
 use native.Mathlib.Decide.{dec_lt}
 use native.Mathlib.Omega.{arith, by_contra}
 use mathlib.Core.Path.{◌≡◌, refl, sym, ap, ap₂, ◌∙◌, subst}
@@ -16,7 +16,7 @@ use Rattle.theory.specs.Build.{Lent}
 use Rattle.theory.specs.Record.{Handed, Work}
 use Rattle.theory.proofs.Places as Places
 use Rattle.host.specs.Host.{packed, Hosted, HostReads, HostBuilds, HostJudges}
-use Rattle.host.proofs.Storing.{no_count, no_counts}
+use Rattle.host.proofs.Hosting.{no_counts}
 use Rattle.promises.specs.Reader as Reader
 use Rattle.promises.specs.Reader.{ReaderCause}
 use Rattle.promises.specs.Builder.{BuilderCause}
@@ -137,7 +137,7 @@ reader_clear (Reader.none e w) z = refl
 
 -- Counts that are zero fill the slice with zero.
 one_zero : {n a : ℕ} → a ≡ 0 → 4 ≤ n → filled n (a ∷ []) ≡ zeros n
-one_zero {n} e l = ap (λ (x : ℕ). filled n (x ∷ [])) e ∙ sym (no_count n l)
+one_zero {n} e l = ap (λ (x : ℕ). filled n (x ∷ [])) e ∙ sym (ap zeros (let k : n ≡ suc (n - 1) = omega arith in k))
 
 three_zero : {n a b c : ℕ} → (a ≡ 0) × (b ≡ 0) × (c ≡ 0) → 4 ≤ n → filled n (a ∷ b ∷ c ∷ []) ≡ zeros n
 three_zero {n} (e, f, g) l = (λ i. filled n (e i ∷ f i ∷ g i ∷ [])) ∙ sym (no_counts n l)

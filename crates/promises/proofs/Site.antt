@@ -6,8 +6,10 @@ use mathlib.Core.Path.{◌≡◌, refl, sym, ap, ◌∙◌}
 use mathlib.Core.Bool.{Bool, true, false, cond, ◌&&◌, false≢true, and-eq-true_iff}
 use lib.ListN.{length}
 use lib.Dec.{eqb}
+use Rattle.std.specs.Prelude.{Result}
 use borrow.Author.Tests.{eqb-true, eq-eqb}
 use Rattle.theory.specs.Refusal.{Refusal, refusal, success, columns_differ, room_small}
+use Rattle.theory.specs.declared.refusal.Refusal.{Refusal as Refused}
 use Rattle.theory.specs.Expression.{Expression}
 use Rattle.theory.specs.Language.{Word}
 use Rattle.theory.specs.Arcs.{even_arcs}
@@ -16,6 +18,7 @@ use Rattle.theory.specs.Read.{Due, entered}
 use Rattle.theory.specs.Build.{over_room, OverRoom}
 use Rattle.theory.specs.Record.{Work}
 use Rattle.theory.specs.Judge.{Judgement}
+use Rattle.theory.proofs.Stated.{told_once}
 use Rattle.theory.proofs.Arcs.{even_arcs_iff}
 use Rattle.theory.proofs.Due.{due_once}
 use Rattle.theory.proofs.Expressed.{expressed}
@@ -24,16 +27,13 @@ use Rattle.theory.specs.Rooms as Rooms
 use Rattle.theory.specs.Report.{Report, withheld, needs}
 use Rattle.site.specs.Site.{Shown, site_refusal, answered, left_in, entry_columns, beside, blank, Made}
 use Rattle.site.specs.Sited.{told, JudgesText}
-use Rattle.site.specs.Values.{values, spoken}
+use Rattle.site.specs.Values.{values}
 use Rattle.site.specs.declared.Site.{Site}
-use Rattle.site.specs.declared.Site.TheVariants as site
-use Rattle.site.specs.declared.Told.{Told}
-use Rattle.site.specs.declared.Told.TheVariants as tell
-use Rattle.site.proofs.Telling.{refused_number}
 use Rattle.site.proofs.Making.{answered_built, answered_refused, left_refused}
 use Rattle.promises.specs.Reader as reader
 use Rattle.promises.specs.Reader.{Written}
 use Rattle.promises.specs.Site.{EvenShown, SiteCause, unread, differ, room, none, SiteMeets, SiteOnce}
+use Rattle.promises.proofs.Answers.{judges_apart}
 use Rattle.promises.proofs.Causes.Exactly.{exactly}
 use Rattle.promises.proofs.Causes.Reader.{reader_caused, reader_due, written_due, due_written}
 
@@ -198,43 +198,16 @@ judged_once {text} {w} {s} {k} {a} {b} {s'} {s''} h j = (answers, columns (ℕ_d
         h.holds z x.expression x.writable x.spelled ∙ sym (j.holds (sym number ∙ z) x.expression x.writable x.spelled)
     columns (no n) = h.blank n ∙ sym (j.blank (λ z. n (number ∙ z)))
 
--- No refusal has number 0, so that the counts tell the two cases apart.
-sites_apart : {text : Text} {s : Shown} (a b : Site) {s' s'' : Shown} → Made text s (values a) s' → Made text s (values b) s'' → a ≡ b
-sites_apart (site.Refused n p) (site.Refused m q) h k =
-    let e = (made_once h k).0 in λ i. site.Refused (e i).refusal.number (e i).refusal.place
-sites_apart (site.Refused n p) (site.Built x l c y a) h k =
-    absurd (refused_number h (ap (λ (z : Report). z.refusal.number) (made_once h k).0))
-sites_apart (site.Built x l c y a) (site.Refused m q) h k =
-    absurd (refused_number k (sym (ap (λ (z : Report). z.refusal.number) (made_once h k).0)))
-sites_apart (site.Built x l c y a) (site.Built x' l' c' y' a') h k =
-    let e = (made_once h k).0 in λ i. site.Built (e i).entries (e i).letters (e i).states (e i).expressions (e i).arcs
-
--- The verdict's number tells the four cases apart.
-verdict_of : {a b : Judgement} → a ≡ b → a.verdict ≡ b.verdict
-verdict_of e = ap (λ (v : Judgement). v.verdict) e
-
-told_apart : (a b : Told) → spoken a ≡ spoken b → a ≡ b
-told_apart (tell.Refused n p) (tell.Refused m q) e = λ i. tell.Refused (e i).refusal.number (e i).refusal.place
-told_apart (tell.Accepted n) (tell.Accepted m) e = ap tell.Accepted (ap (λ (v : Judgement). v.live) e)
-told_apart (tell.Unfinished n) (tell.Unfinished m) e = ap tell.Unfinished (ap (λ (v : Judgement). v.live) e)
-told_apart (tell.Wrong p) (tell.Wrong q) e = ap tell.Wrong (ap (λ (v : Judgement). v.place) e)
-told_apart (tell.Refused n p) (tell.Accepted m) e = absurd (omega (arith, verdict_of e))
-told_apart (tell.Refused n p) (tell.Unfinished m) e = absurd (omega (arith, verdict_of e))
-told_apart (tell.Refused n p) (tell.Wrong q) e = absurd (omega (arith, verdict_of e))
-told_apart (tell.Accepted n) (tell.Refused m q) e = absurd (omega (arith, verdict_of e))
-told_apart (tell.Accepted n) (tell.Unfinished m) e = absurd (omega (arith, verdict_of e))
-told_apart (tell.Accepted n) (tell.Wrong q) e = absurd (omega (arith, verdict_of e))
-told_apart (tell.Unfinished n) (tell.Refused m q) e = absurd (omega (arith, verdict_of e))
-told_apart (tell.Unfinished n) (tell.Accepted m) e = absurd (omega (arith, verdict_of e))
-told_apart (tell.Unfinished n) (tell.Wrong q) e = absurd (omega (arith, verdict_of e))
-told_apart (tell.Wrong p) (tell.Refused m q) e = absurd (omega (arith, verdict_of e))
-told_apart (tell.Wrong p) (tell.Accepted m) e = absurd (omega (arith, verdict_of e))
-told_apart (tell.Wrong p) (tell.Unfinished m) e = absurd (omega (arith, verdict_of e))
+sites_apart : (a b : Result Site Refused) → values a ≡ values b → a ≡ b
+sites_apart =
+    told_once values (λ x. x.refusal)
+    (λ x. record { entries = x.entries; letters = x.letters; states = x.states; expressions = x.expressions; arcs = x.arcs }) (λ v. refl)
+    (λ r. refl) (λ v. refl)
 
 pub site_once : SiteOnce
 site_once = record {
   automaton = made_once;
   judge = judged_once;
-  sites = λ h k. sites_apart _ _ h k;
-  tells = λ h k. told_apart _ _ (judged_once h k).0;
+  sites = λ a b h k. sites_apart a b (made_once h k).0;
+  tells = λ a b h k. judges_apart a b (judged_once h k).0;
 }

@@ -1,7 +1,8 @@
 -- 2026-01, the room report: what each line of the file reports, and the four sums of the last line.
-use Rattle.std.specs.Prelude.{ℕ, zero, suc, ◌+◌, ◌^◌, ◌≤◌, ◌<◌, ◌≡◌, ◌↔◌, cond, List, [], ◌∷◌, ◌++◌, length, take, eqb, ltb}
+use Rattle.std.specs.Prelude.{ℕ, zero, suc, ◌+◌, ◌^◌, ◌≤◌, ◌<◌, ◌≡◌, ◌↔◌, cond, List, [], ◌∷◌, ◌++◌, length, take, eqb, ltb, Result}
 use Rattle.theory.specs.Expression.{Expression, entries, letters, letter, binary, union, shuffle}
 use Rattle.theory.specs.Refusal.{Refusal, refusal}
+use Rattle.theory.specs.declared.refusal.Refusal.{Refusal as Refused}
 use Rattle.theory.specs.Automaton.{states, expressions, arcs}
 use Rattle.theory.specs.Grammar.{Text, written}
 use Rattle.theory.specs.Report.{report, Totals, totals}
@@ -33,7 +34,7 @@ pub record LinesReport : Type 0 where
         arcs = length (arcs e);
       }
   -- It is what `site::automaton` answers in the programs' rooms.
-  pub answered : {text : Text} {s : Shown} {s' : Shown} (site : Site) → InRooms s → Made text s (values site) s' → values site ≡ report text
+  pub answered : {text : Text} {s : Shown} {s' : Shown} (site : Result Site Refused) → InRooms s → Made text s (values site) s' → values site ≡ report text
 
 -- ---- The four sums
 
@@ -61,7 +62,7 @@ pub record FourSums (texts : List Text) (t : Totals) : Type 0 where
 -- The totals in a run: nothing at first, and after each text those that `totals::with` makes of what `site::automaton` answered.
 pub data Run : List Text → Totals → Type 0 where
   none : Run [] (record { built = 0; states = 0; powers = 0; few = 0 })
-  one_more : {texts : List Text} {t : Totals} {text : Text} {s s' : Shown} (site : Site) → Run texts t → InRooms s
+  one_more : {texts : List Text} {t : Totals} {text : Text} {s s' : Shown} (site : Result Site Refused) → Run texts t → InRooms s
       → Made text s (values site) s' → Run (texts ++ text ∷ []) (with_report t (values site))
 
 -- "that the totals are those of the list"

@@ -1,6 +1,7 @@
 -- The site's two calls: demand 1 at `site::automaton` and at `site::judge`, and that two results of either are equal, answer and columns.
-use Rattle.std.specs.Prelude.{◌<◌, ◌≡◌, ◌↔◌, length}
+use Rattle.std.specs.Prelude.{◌<◌, ◌≡◌, ◌↔◌, length, Result}
 use Rattle.theory.specs.Refusal.{Refusal, refusal, success}
+use Rattle.theory.specs.declared.refusal.Refusal.{Refusal as Refused}
 use Rattle.theory.specs.Expression.{Expression}
 use Rattle.theory.specs.Language.{Word}
 use Rattle.theory.specs.Automaton.{states}
@@ -11,10 +12,11 @@ use Rattle.theory.specs.Record.{Work, cleared}
 use Rattle.theory.specs.Judge.{Judgement}
 use Rattle.theory.specs.Report.{Report, withheld}
 use Rattle.site.specs.Site.{Shown, entry_columns, beside, blank, Made}
-use Rattle.site.specs.Values.{values, spoken}
+use Rattle.site.specs.Values.{values}
 use Rattle.site.specs.Sited.{JudgesText}
 use Rattle.site.specs.declared.Site.{Site}
-use Rattle.site.specs.declared.Told.{Told}
+use Rattle.matcher.specs.Answer as matcher
+use Rattle.matcher.specs.declared.Verdict.{Verdict}
 use Rattle.promises.specs.Reader.{ReaderCause, Written}
 use Rattle.promises.specs.Matcher.{TooShort}
 
@@ -61,7 +63,7 @@ pub record SiteOnce : Type 0 where
   pub automaton : {text : Text} {s : Shown} {a b : Report} {s' s'' : Shown} → Made text s a s' → Made text s b s'' → (a ≡ b) × (s' ≡ s'')
   pub judge : {text : Text} {w : Word} {s : Shown} {k : Work} {a b : Judgement} {s' s'' : Shown} {k' k'' : Work}
       → JudgesText text w s k a s' k' → JudgesText text w s k b s'' k'' → (a ≡ b) × (s' ≡ s'') × (k' ≡ k'')
-  -- The same of the enums that the calls return.
-  pub sites : {text : Text} {s : Shown} {a b : Site} {s' s'' : Shown} → Made text s (values a) s' → Made text s (values b) s'' → a ≡ b
-  pub tells : {text : Text} {w : Word} {s : Shown} {k : Work} {a b : Told} {s' s'' : Shown} {k' k'' : Work}
-      → JudgesText text w s k (spoken a) s' k' → JudgesText text w s k (spoken b) s'' k'' → a ≡ b
+  -- The same of the answers as the calls return them.
+  pub sites : {text : Text} {s : Shown} (a b : Result Site Refused) {s' s'' : Shown} → Made text s (values a) s' → Made text s (values b) s'' → a ≡ b
+  pub tells : {text : Text} {w : Word} {s : Shown} {k : Work} (a b : Result Verdict Refused) {s' s'' : Shown} {k' k'' : Work}
+      → JudgesText text w s k (matcher.values a) s' k' → JudgesText text w s k (matcher.values b) s'' k'' → a ≡ b

@@ -1,11 +1,11 @@
 -- Demand 1 at `table::check`, and refusals 1 to 8 of an expression table wherever it is handed over: the cause of each, in the order of 01's table.
-use Rattle.std.specs.Prelude.{ℕ, pred, ◌≤◌, ◌<◌, ◌≡◌, ◌↔◌, true}
+use Rattle.std.specs.Prelude.{ℕ, pred, ◌≤◌, ◌<◌, ◌≡◌, ◌↔◌, true, Result}
 use mathlib.Core.List.{Memᴰ}
 use Rattle.theory.specs.Refusal.{Refusal, refusal, success}
 use Rattle.theory.specs.Table.{Table, Row, row, size, meaning, fields_fit, row_children, times, named, SameLengths}
 use Rattle.theory.specs.Table as Tested
-use Rattle.table.specs.Checked.{refusal_of}
-use Rattle.table.specs.declared.Checked.{Checked}
+use Rattle.theory.specs.Stated.{refusal_in}
+use Rattle.theory.specs.declared.refusal.Refusal.{Refusal as Refused}
 
 -- 01's table of kinds, the columns "left" and "right" where they hold no child: what a row of each kind may have there.
 pub data FieldsFit (w : Row) : Type 0 where
@@ -67,9 +67,9 @@ pub data TableCause (g : Table) : Refusal → Type 0 where
   none : WellFormed g → TableCause g success
 
 -- What demand 1 asks of a check, which writes nothing: a refusal is given exactly where there is cause for it.
-pub record TableMeets (g : Table) (answer : Checked) : Type 0 where
-  pub exact : (r : Refusal) → (refusal_of answer ≡ r) ↔ TableCause g r
-  pub numbered : (refusal_of answer).number < 9
+pub record TableMeets (g : Table) (answer : Result Unit Refused) : Type 0 where
+  pub exact : (r : Refusal) → (refusal_in answer ≡ r) ↔ TableCause g r
+  pub numbered : (refusal_in answer).number < 9
 
 -- The types above are what the tests of the contracts find.
 pub record TablesTested : Type 0 where

@@ -18,8 +18,9 @@ use Rattle.theory.proofs.TableRefusal.{refused_differ, refused_empty, refused_lo
 use Rattle.theory.proofs.Times.{fault_none, fault_found, once_of}
 use Rattle.theory.proofs.FirstFound.{Scanned, clean, faulty, scanned, scanned_once}
 use Rattle.theory.proofs.WellFormed.{smaller_of}
-use Rattle.table.specs.Checked as check
-use Rattle.table.specs.declared.Checked.{Checked}
+use Rattle.std.specs.Prelude.{Result}
+use Rattle.theory.specs.Stated.{refusal_in}
+use Rattle.theory.specs.declared.refusal.Refusal.{Refusal as Refused}
 use Rattle.promises.proofs.Tested.{fits, tested, known, children_are}
 use Rattle.promises.proofs.Causes.Exactly.{exactly}
 use Rattle.promises.specs.Table.{Faultless, WellFormed, TableMeets, EntryCause, unknown, outside, not_smaller, inside, Sized, FaultlessBefore, NamedOnce, TableCause, differ, empty, long, entry, not_once, none}
@@ -211,8 +212,8 @@ module _ (g : Table) where
 
 -- ---- The demand
 
-pub table_meets : (g : Table) {answer : Checked} → check.Scanned answer (table_refusal g) → TableMeets g answer
-table_meets g h = record {
-  exact = exactly (TableCause g) h.is (table_caused g) (λ r. table_due g);
-  numbered = let l = table_numbered g (table_caused g) in let e = ap (λ (r : Refusal). r.number) h.is in omega arith;
+pub table_meets : (g : Table) (answer : Result Unit Refused) → refusal_in answer ≡ table_refusal g → TableMeets g answer
+table_meets g answer h = record {
+  exact = exactly (TableCause g) h (table_caused g) (λ r. table_due g);
+  numbered = let l = table_numbered g (table_caused g) in let e = ap (λ (r : Refusal). r.number) h in omega arith;
 }
