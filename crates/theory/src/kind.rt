@@ -53,20 +53,3 @@ impl Kind {
         }
     }
 }
-
-// OLD
-pub const EMPTY_LANGUAGE: u8 = 0;
-
-pub const EMPTY_WORD: u8 = 1;
-
-pub const LETTER: u8 = 2;
-
-pub const UNION: u8 = 3;
-
-pub const CONCATENATION: u8 = 4;
-
-pub const SHUFFLE: u8 = 5;
-
-pub const STAR: u8 = 6;
-
-pub const LAST: u8 = STAR;

@@ -1,4 +1,4 @@
-// Definitions (specs/) and laws (proofs/), and the numbers of document 01 by name. The crate has no function.
+// Definitions (specs/) and laws (proofs/), and what document 01 numbers: kinds, causes of refusal, limits.
 
 #![tactic(auto)]
 
