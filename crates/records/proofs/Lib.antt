@@ -1,4 +1,0 @@
-pub mod Answering
-pub mod Turning
-pub mod Starting
-pub mod Going
