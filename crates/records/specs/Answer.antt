@@ -1,6 +1,6 @@
 -- What the records program answers to a line as it was taken: 01, "prints per record `accepted L`, `unfinished L` (L is live) or `wrong P`", and
 -- `refused R P` on a refusal.
-use Rattle.std.specs.Prelude.{ℕ, ◌+◌, ◌≤◌, ◌≡◌, List, [], ◌++◌, length, take, Option, None, Some, Result, Ok, Err}
+use Rattle.std.specs.Prelude.{ℕ, ◌+◌, ◌≤◌, ◌≡◌, List, ◌++◌, length, take, Result, Ok, Err}
 use Rattle.theory.specs.Expression.{Expression}
 use Rattle.theory.specs.Refusal.{refusal, record_long}
 use Rattle.theory.specs.Grammar.{Text}
@@ -8,7 +8,6 @@ use Rattle.theory.specs.Record.{automaton, accepted, unfinished, wrong, verdict,
 use Rattle.theory.specs.Lines.{verdict_line, refusal_line}
 use Rattle.theory.specs.Stated.{stated}
 use Rattle.theory.specs.declared.refusal.Refusal.{Refusal}
-use Rattle.lines.specs.declared.failure.Failure.{Failure}
 use Rattle.lines.specs.declared.input.Line.{Line}
 use Rattle.lines.specs.declared.input.Line.TheVariants.{Ended, Full}
 use Rattle.lines.specs.Output.{line_room}
@@ -27,16 +26,13 @@ judgement_line (Ok (Unfinished live)) = verdict_line unfinished live
 judgement_line (Ok (Wrong place)) = verdict_line (wrong place) 0
 judgement_line (Err r) = refusal_line (stated r)
 
--- The answer to a line, by the expression e of the program's text: of a record its verdict, of a line that filled the column 16; nothing where
--- there is no line.
-unfoldable pub line_answer : Expression → Result (Option Line) Failure → List ℕ → List ℕ
+-- The answer to a line, by the expression e of the program's text: of a record its verdict, of a line that filled the column 16.
+unfoldable pub line_answer : Expression → Line → List ℕ → List ℕ
 unfolding automaton verdict live
-line_answer e (Ok None) column = []
-line_answer e (Ok (Some (Ended n))) column = let w = take n column in verdict_line (verdict (automaton e) w) (live (automaton e) w)
-line_answer e (Ok (Some Full)) column = refusal_line (refusal record_long 0)
-line_answer e (Err f) column = []
+line_answer e (Ended n) column = let w = take n column in verdict_line (verdict (automaton e) w) (live (automaton e) w)
+line_answer e Full column = refusal_line (refusal record_long 0)
 
 -- What `answer` owes: the answer stands after what was held, by the expression that the text writes.
-pub record Answered (text : Text) (line : Result (Option Line) Failure) (column held held' : List ℕ) : Type 0 where
+pub record Answered (text : Text) (line : Line) (column held held' : List ℕ) : Type 0 where
   pub stands : OfText text (λ e. held' ≡ held ++ line_answer e line column)
   pub short : length held' ≤ length held + line_room

@@ -8,18 +8,18 @@ use Rattle.lines.specs.Input.{Input, TookWhole}
 use Rattle.lines.specs.Turn.{Left, Due}
 use Rattle.records.specs.Answer.{Answered}
 
-pub record Answers (text : Text) (input : Input) (size : ℕ) (held : List ℕ) (line : Result (Option Line) Failure) (input' : Input)
-    (column held' : List ℕ) : Type 0 where
+-- A line was taken, and answered.
+pub record Answers (text : Text) (input : Input) (size : ℕ) (held : List ℕ) (line : Line) (input' : Input) (column held' : List ℕ) : Type 0 where
   pub left : List ℕ
   pub leaves : Left input size held left
-  pub took : TookWhole input line input' column
+  pub took : TookWhole input (Ok (Some line)) input' column
   pub answered : Answered text line column left held'
 
 -- Where the input ends or a read fails, nothing is left to be written. A write fails only where one is due, and then no line is taken.
-abbrev pub Turns : Text → Input → ℕ → List ℕ → Result (Option Line) Failure → Input → List ℕ → List ℕ → Type 0
-Turns text input size held (Ok (Some line)) input' column held' = Answers text input size held (Ok (Some line)) input' column held'
-Turns text input size held (Ok None) input' column held' = Answers text input size held (Ok None) input' column held' × (held' ≡ [])
-Turns text input size held (Err Read) input' column held' = Answers text input size held (Err Read) input' column held' × (held' ≡ [])
+abbrev pub Turns : Text → Input → (size : ℕ) → List ℕ → Result (Option Line) Failure → Input → List ℕ → List ℕ → Type 0
+Turns text input size held (Ok (Some line)) input' column held' = Answers text input size held line input' column held'
+Turns text input size held (Ok None) input' column held' = TookWhole input (Ok None) input' column × Left input size held [] × (held' ≡ [])
+Turns text input size held (Err Read) input' column held' = TookWhole input (Err Read) input' column × Left input size held [] × (held' ≡ [])
 Turns text input size held (Err Write) input' column held' = Due input size held × (input' ≡ input) × (held' ≡ held)
 
 -- What `answer_next` owes.

@@ -1,6 +1,6 @@
 // A line as it was taken, and its answer after what is not written yet.
 
-ghost use Rattle.std.specs.Prelude.{◌+◌, ◌≤◌, ◌≡◌, ◌++◌, Ok, Some, length};
+ghost use Rattle.std.specs.Prelude.{◌+◌, ◌≤◌, ◌≡◌, ◌++◌, Some, length};
 ghost use Rattle.theory.specs.Record.{LongEnough};
 ghost use Rattle.theory.specs.Lines.{number_and, newline};
 ghost use Rattle.columns.specs.Work.{lent_work, SameWork};
@@ -56,7 +56,7 @@ fn answer<const ROOM: usize>(
     requires long_enough { LongEnough (lent_work work.old) automaton.states }
     requires whole { Whole longest_record (Some line) column.now × (length output.old + line_room ≤ ROOM) }
     ensures same { SameWork work.old work.new }
-    ensures answered { Answered text.now (Ok (Some line)) column.now output.old output.new }
+    ensures answered { Answered text.now line column.now output.old output.new }
 {
     match line {
         Line::Full => output.refused(Refusal {
@@ -86,8 +86,11 @@ pub fn answer_next<R: Read, const SIZE: usize, const ROOM: usize>(
     ensures turned { Turned text.now input.old ROOM output.old result input.new column.new output.new }
 {
     let asked = lines::turn::ask(input, column, output)?;
-    if let Some(line) = asked {
-        answer(text, line, column, automaton, work, output);
+    match asked {
+        None => Ok(None),
+        Some(line) => {
+            answer(text, line, column, automaton, work, output);
+            Ok(Some(line))
+        }
     }
-    Ok(asked)
 }

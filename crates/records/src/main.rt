@@ -49,7 +49,7 @@ fn judge<R: Read>(
         current: &mut current,
         next: &mut next,
     };
-    let mut output: Output<ANSWERS> = Output::new();
+    let mut output = Output::<ANSWERS>::new();
     for _ in 0..u64::MAX {
         let answered =
             answers::answer_next(input, text, &mut column, automaton, &mut work, &mut output)?;
@@ -85,8 +85,7 @@ fn automaton_of(
 }
 
 // 01: "the records program stops there if the expression was refused".
-fn run<R: Read>(source: R) -> Result<(), Failure> {
-    let mut input: Input<R, TAKEN> = Input::new(source);
+fn run<R: Read>(input: &mut Input<R, TAKEN>) -> Result<(), Failure> {
     // A byte more than a text may have: of a longer line the reader sees that it is longer.
     let mut column = [0u8; limit::TEXT + 1];
     let line = input.take_line(&mut column)?;
@@ -99,22 +98,25 @@ fn run<R: Read>(source: R) -> Result<(), Failure> {
         letter: &mut letter,
         to: &mut to,
     };
-    let mut output: Output<LINE> = Output::new();
+    let mut output = Output::<LINE>::new();
     let Some(site) = automaton_of(line, &column, &mut accepting, &mut arcs, &mut output) else {
         output.write_out()?;
         return Ok(());
     };
+    let arcs = arcs.view();
     let automaton = Automaton {
         states: site.states,
         accepting: &accepting,
         arc_count: site.arcs,
-        arcs: arcs.view(),
+        arcs,
     };
-    judge(&mut input, lines::input::bytes(line, &column), automaton)
+    judge(input, lines::input::bytes(line, &column), automaton)
 }
 
 fn main(rt: HostRuntime) {
-    if let Err(failure) = run(rt.stdin()) {
+    let mut input = Input::<_, TAKEN>::new(rt.stdin());
+    if let Err(failure) = run(&mut input) {
+        // Nothing is left to be said where that fails too.
         let _ = failure.tell();
     }
 }

@@ -1,0 +1,4 @@
+pub mod Answering
+pub mod Turning
+pub mod Starting
+pub mod Going
