@@ -1,5 +1,5 @@
 -- What the records program makes of the expression line: the refusal's line, or the automaton that its text writes.
-use Rattle.std.specs.Prelude.{ℕ, ◌≡◌, List, [], Option, None, Some}
+use Rattle.std.specs.Prelude.{ℕ, ◌≡◌, List, Option, None, Some}
 use Rattle.theory.specs.Refusal.{Refusal, success}
 use Rattle.theory.specs.Grammar.{Text}
 use Rattle.theory.specs.Record.{handed}

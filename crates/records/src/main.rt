@@ -51,8 +51,14 @@ fn judge<R: Read>(
     };
     let mut output = Output::<ANSWERS>::new();
     for _ in 0..u64::MAX {
-        let answered =
-            answers::answer_next(input, text, &mut column, automaton, &mut work, &mut output)?;
+        let answered = answers::answer_next(
+            input,
+            text,
+            &mut column,
+            automaton,
+            &mut work,
+            &mut output,
+        )?;
         if answered.is_none() {
             return Ok(());
         }
@@ -68,7 +74,8 @@ fn automaton_of(
     arcs: &mut ArcsMut<'_>,
     output: &mut Output<LINE>,
 ) -> Option<Site>
-    requires whole { Whole longest_text line column.now × (output.old ≡ []) }
+    requires whole { Whole longest_text line column.now }
+    requires empty { output.old ≡ [] }
     requires in_rooms { InRooms (shown accepting.old (lent_arcs arcs.old)) }
     ensures same { SameArcs arcs.old arcs.new }
     ensures starts { Starts (line_bytes line column.now) (shown accepting.old (lent_arcs arcs.old)) result
