@@ -5,17 +5,17 @@ use native.Mathlib.Omega.{arith}
 use mathlib.Core.Path.{◌≡◌, ap, ◌∙◌}
 use mathlib.Core.List.{[], ◌∷◌}
 use Rattle.std.specs.Prelude.{Err}
-use Rattle.theory.specs.Limit.{most_entries}
 use Rattle.theory.specs.Column.{zeros, filled}
 use Rattle.theory.specs.Table.{Table}
 use Rattle.theory.specs.Grammar.{Text}
 use Rattle.theory.specs.Language.{Word}
 use Rattle.theory.specs.Read.{Entered, Read}
-use Rattle.theory.specs.Build.{Lent, Counts, counts, Built, build_refusal}
-use Rattle.theory.specs.Record.{Handed, Work, Verdict, accepted, unfinished, wrong, verdict, live, matcher_refusal}
-use Rattle.theory.specs.Judge.{Judgement, given, judgement, Judged}
+use Rattle.theory.specs.Build.{Lent, Counts, Built, build_refusal}
+use Rattle.theory.specs.Record.{Handed, Work, verdict, live, matcher_refusal}
+use Rattle.theory.specs.Judge.{Judgement, Judged}
 use Rattle.theory.specs.declared.refusal.Refusal.{Refusal}
 use Rattle.theory.proofs.Answers.{counts_built, counts_refused, judgement_given, judgement_refused}
+use Rattle.theory.proofs.Handing.{given_some}
 use Rattle.theory.proofs.MatcherRefusal.{place_zero}
 use Rattle.theory.proofs.Places.{reader_place, builder_place}
 use Rattle.reader.specs.Answer.{answer as entered_of}
@@ -29,29 +29,19 @@ module _ {text : Text} {t t' : Table} (r : Refusal) where
   pub reads_place : Read text t (entered_of (Err r)) t' → r.place < 4294967296
   reads_place h = let l = reader_place h.due in omega (arith, ap (λ (a : Entered). a.refusal.place) h.answers)
 
-counts_place : (g : Table) (c : Lent) → (counts g c).refusal.place ≤ most_entries
-counts_place g c = go (ℕ_discrete (build_refusal g c).number 0)
-  where
-    go : Dec ((build_refusal g c).number ≡ 0) → (counts g c).refusal.place ≤ most_entries
-    go (yes z) = omega (arith, ap (λ (a : Counts). a.refusal.place) (counts_built g c z))
-    go (no n) = let l = builder_place g c in omega (arith, ap (λ (a : Counts). a.refusal.place) (counts_refused g c n))
-
 module _ {g : Table} {c c' : Lent} (r : Refusal) where
   pub builds_place : Built g c (counts_of (Err r)) c' → r.place < 4294967296
-  builds_place h = let l = counts_place g c in omega (arith, ap (λ (a : Counts). a.refusal.place) h.answers)
+  builds_place h = go (ℕ_discrete (build_refusal g c).number 0)
+    where
+      go : Dec ((build_refusal g c).number ≡ 0) → r.place < 4294967296
+      go (yes z) = omega (arith, ap (λ (a : Counts). a.refusal.place) (h.answers ∙ counts_built g c z))
+      go (no n) = let l = builder_place g c in omega (arith, ap (λ (a : Counts). a.refusal.place) (h.answers ∙ counts_refused g c n))
 
-judgement_place : (h : Handed) (k : Work) (w : Word) → (judgement h k w).refusal.place ≡ 0
-judgement_place h k w = go (ℕ_discrete (matcher_refusal h k).number 0)
-  where
-    go : Dec ((matcher_refusal h k).number ≡ 0) → (judgement h k w).refusal.place ≡ 0
-    go (yes z) = by_verdict (verdict h w) (judgement_given h k w z)
-      where
-        by_verdict : (v : Verdict) → judgement h k w ≡ given v (live h w) → (judgement h k w).refusal.place ≡ 0
-        by_verdict accepted e = ap (λ (a : Judgement). a.refusal.place) e
-        by_verdict unfinished e = ap (λ (a : Judgement). a.refusal.place) e
-        by_verdict (wrong p) e = ap (λ (a : Judgement). a.refusal.place) e
-    go (no n) = ap (λ (a : Judgement). a.refusal.place) (judgement_refused h k w n) ∙ place_zero h k
-
+-- What is told of a refusal is no verdict, and the matcher's refusals have place 0.
 module _ {h : Handed} {w : Word} {k k' : Work} (r : Refusal) where
   pub judges_place : Judged h w k (values (Err r)) k' → r.place < 4294967296
-  judges_place j = omega (arith, judgement_place h k w, ap (λ (a : Judgement). a.refusal.place) j.answers)
+  judges_place j = go (ℕ_discrete (matcher_refusal h k).number 0)
+    where
+      go : Dec ((matcher_refusal h k).number ≡ 0) → r.place < 4294967296
+      go (yes z) = absurd (given_some (verdict h w) (live h w) (ap (λ (a : Judgement). a.verdict) (j.answers ∙ judgement_given h k w z)))
+      go (no n) = omega (arith, place_zero h k, ap (λ (a : Judgement). a.refusal.place) (j.answers ∙ judgement_refused h k w n))

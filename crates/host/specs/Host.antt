@@ -19,8 +19,8 @@ packed r = r.number * 4294967296 + r.place
 abbrev pub fewest_counts : ℕ
 fewest_counts = 4
 
--- A call by way of the host: `Owes a` is what the call owes with the answer a, `Zero` that all it was lent for writing is zero. "A fixed slice of 64-bit
--- numbers receives the counts .. with zero in the rest. Refusals: 23, that slice has fewer than 4 numbers; before all others."
+-- A call by way of the host: `Owes a` is what the call owes with the answer a, `Zero` that all it was lent for writing is zero. "A fixed slice of
+-- 64-bit numbers receives the counts .. with zero in the rest. Refusals: 23, that slice has fewer than 4 numbers; before all others."
 pub record Hosted {A : Type 0} (refusal_of : A → Refusal) (counts_of : A → List ℕ) (Owes : A → Type 0) (Zero : Type 0) (counts : List ℕ) (r : ℕ)
     (counts' : List ℕ) : Type 0 where
   pub few : length counts < fewest_counts → Zero × (r ≡ packed (refusal counts_few 0)) × (counts' ≡ zeros (length counts))

@@ -76,8 +76,8 @@ packing_undone = record {
 
 -- ---- With few numbers for the counts, and with enough
 
-module _ {A : Type 0} {refusal_of : A → Refusal} {numbers : A → List ℕ} {Owes : A → Type 0} {Zero : Type 0} {counts : List ℕ} {r : ℕ} {counts' : List ℕ}
-    (h : Hosted refusal_of numbers Owes Zero counts r counts') where
+module _ {A : Type 0} {refusal_of : A → Refusal} {numbers : A → List ℕ} {Owes : A → Type 0} {Zero : Type 0} {counts : List ℕ} {r : ℕ}
+    {counts' : List ℕ} (h : Hosted refusal_of numbers Owes Zero counts r counts') where
   -- What follows both ways follows.
   pub by_length : {C : Type 0} → (length counts < 4 → Zero → r ≡ packed (refusal 23 0) → counts' ≡ zeros (length counts) → C)
       → (4 ≤ length counts → (a : A) → Owes a → r ≡ packed (refusal_of a) → counts' ≡ filled (length counts) (numbers a) → C) → C
@@ -159,10 +159,12 @@ host_demand_one = record {
 -- ---- Two results that meet a contract
 
 module _ {A : Type 0} {refusal_of : A → Refusal} {numbers : A → List ℕ} {Owes Owes' : A → Type 0} {Zero Zero' : Type 0} {counts : List ℕ} {r s : ℕ}
-    {counts' counts'' : List ℕ} (h : Hosted refusal_of numbers Owes Zero counts r counts') (k : Hosted refusal_of numbers Owes' Zero' counts s counts'') where
+    {counts' counts'' : List ℕ} (h : Hosted refusal_of numbers Owes Zero counts r counts')
+    (k : Hosted refusal_of numbers Owes' Zero' counts s counts'') where
   -- What follows where both slices are short, and where the answers behind both are the same, follows.
   both : {C : Type 0} → ((a b : A) → Owes a → Owes' b → a ≡ b) → ((r ≡ s) × (counts' ≡ counts'') → r ≡ packed (refusal 23 0) → Zero → Zero' → C)
-      → ((r ≡ s) × (counts' ≡ counts'') → (a b : A) → Owes a → Owes' b → r ≡ packed (refusal_of a) → counts' ≡ filled (length counts) (numbers a) → C) → C
+      → ((r ≡ s) × (counts' ≡ counts'') → (a b : A) → Owes a → Owes' b → r ≡ packed (refusal_of a) → counts' ≡ filled (length counts) (numbers a) → C)
+      → C
   both same f g = by_length h
       (λ l z e n. let (z', e', n') = k.few l in f (e ∙ sym e', n ∙ sym n') e z z')
       (λ l a o e n. let (b, o', e', n') = k.enough l in let q = same a b o o' in

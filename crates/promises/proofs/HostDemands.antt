@@ -99,7 +99,8 @@ judged {c' = c'} {w = w} {k} {judge_lent} {r} {k'} {told} h l s j =
     let (a, o, e, q) = judges.enough l in
     e ∙ ap packed (demand_two.accepts is_built (number_of built_well) o enough).0
 
-accepts : {g : Table} {c : Lent} {counts : List ℕ} {c' : Lent} {counts' : List ℕ} {w : Word} {k : Work} {judge_lent : List ℕ} {k' : Work} {told : List ℕ}
+accepts : {g : Table} {c : Lent} {counts : List ℕ} {c' : Lent} {counts' : List ℕ} {w : Word} {k : Work} {judge_lent : List ℕ} {k' : Work}
+    {told : List ℕ}
     → HostBuilds g c counts 0 c' counts' → HostJudges (handed (get_or counts' 0 0) c'.accepting (get_or counts' 2 0) c'.arcs) w k judge_lent 0 k' told
     → (get_or told 0 0 ≡ 1) ↔ In (tree g) w
 accepts {g} {c' = c'} {w = w} {k} {judge_lent} {k'} {told} h j =

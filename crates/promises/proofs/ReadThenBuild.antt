@@ -17,7 +17,8 @@ use Rattle.promises.proofs.Causes.Table.{table_due}
 use Rattle.promises.proofs.Causes.Builder.{builder_caused, builder_answers}
 use Rattle.promises.specs.ReadThenBuild.{ReadThenBuild}
 
-room_alone : {g : Table} {c : Lent} {r : Refusal} → table_refusal g ≡ success → EvenLent c → BuilderCause g c r → (r.number ≡ 0) ⊎ (r.number ≡ room_small)
+room_alone : {g : Table} {c : Lent} {r : Refusal} → table_refusal g ≡ success → EvenLent c → BuilderCause g c r
+    → (r.number ≡ 0) ⊎ (r.number ≡ room_small)
 room_alone s v (Building.differ n) = absurd (n v)
 room_alone {g} s v (Building.table u t n) = absurd (n (ap (λ (r : Refusal). r.number) (sym (table_due g t) ∙ s)))
 room_alone s v (room u w o) = inr refl

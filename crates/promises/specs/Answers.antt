@@ -25,9 +25,9 @@ pub record NeverNone : Type 0 where
 
 pub record AnswersOnce : Type 0 where
   pub checks : (g : Table) (a b : Result Unit Refusal) → refusal_in a ≡ table_refusal g → refusal_in b ≡ table_refusal g → a ≡ b
-  pub reads : {text : Text} {t : Table} (a b : Result ℕ Refusal) {t' t'' : Table} → Read text t (reader.answer a) t' → Read text t (reader.answer b) t''
-      → a ≡ b
-  pub builds : {g : Table} {c : Lent} (a b : Result Counts Refusal) {d d' : Lent} → Built g c (builder.answer a) d → Built g c (builder.answer b) d'
-      → a ≡ b
+  pub reads : {text : Text} {t : Table} (a b : Result ℕ Refusal) {t' t'' : Table} → Read text t (reader.answer a) t'
+      → Read text t (reader.answer b) t'' → a ≡ b
+  pub builds : {g : Table} {c : Lent} (a b : Result Counts Refusal) {d d' : Lent} → Built g c (builder.answer a) d
+      → Built g c (builder.answer b) d' → a ≡ b
   pub judges : {h : Handed} {w : Word} {k : Work} (a b : Result Verdict Refusal) {k' k'' : Work} → Judged h w k (matcher.values a) k'
       → Judged h w k (matcher.values b) k'' → a ≡ b

@@ -34,7 +34,8 @@ pub record LinesReport : Type 0 where
         arcs = length (arcs e);
       }
   -- It is what `site::automaton` answers in the programs' rooms.
-  pub answered : {text : Text} {s : Shown} {s' : Shown} (site : Result Site Refused) → InRooms s → Made text s (values site) s' → values site ≡ report text
+  pub answered : {text : Text} {s : Shown} {s' : Shown} (site : Result Site Refused) → InRooms s → Made text s (values site) s'
+      → values site ≡ report text
 
 -- ---- The four sums
 

@@ -64,7 +64,8 @@ module _ (n i : ℕ) (w : Row) where
       go false true false d e p q r s u =
           let (c, m, l) = larger_found i (row_children w) r in
           wrong (not_smaller (fits w (ltb-false 6 w.kind p) q) c ((children_are w c).0 m) l) (λ z. omega arith)
-      go false true true true true p q r s u = wrong (inside (eqb-true w.kind 0 s) (fits w (ltb-false 6 w.kind p) q) (ltb-true 1 n u)) (λ z. omega arith)
+      go false true true true true p q r s u =
+          wrong (inside (eqb-true w.kind 0 s) (fits w (ltb-false 6 w.kind p) q) (ltb-true 1 n u)) (λ z. omega arith)
       go false true true true false p q r s u =
           right (found (ltb-false 6 w.kind p) q r (λ _. ltb-false 1 n u))
       go false true true false e p q r s u =
