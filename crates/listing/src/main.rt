@@ -9,7 +9,7 @@ ghost use Rattle.theory.specs.Limit.{longest_text};
 ghost use Rattle.columns.specs.Arcs.{read_arcs};
 ghost use Rattle.lines.specs.Input.{line_bytes, Whole};
 ghost use Rattle.lines.specs.Output.{WroteOut};
-ghost use Rattle.listing.specs.Listing.{arc_bytes, state_bytes, listing_bytes, Narrow, arc_lines, state_lines, Lists, Printed, Prints, Answers};
+ghost use Rattle.listing.specs.Listing.{arc_bytes, state_bytes, listing_bytes, Narrow, arc_lines, state_text, state_lines, Lists, Printed, Prints, Answers};
 
 use columns::arcs::{Arcs, ArcsMut};
 use lines::failure::Failure;
@@ -50,10 +50,19 @@ fn states<const ROOM: usize>(output: &mut Output<ROOM>, count: usize, accepting:
     ensures put { output.new ≡ output.old ++ state_lines accepting.now count }
     ensures upper_bound { length output.new ≤ length output.old + count * state_bytes }
 {
-    for state in 0..count {
-        if accepting[state] == 1 {
-            output.number(state, b'\n');
-        }
+    for i in 0..count {
+        state(output, i, accepting[i]);
+    }
+}
+
+#[tactic(auto, using(crate::proofs::Bytes::short_put, crate::proofs::Listed::of_accepting, crate::proofs::Listed::of_other))]
+fn state<const ROOM: usize>(output: &mut Output<ROOM>, state: usize, accepting: u8)
+    requires { (length output.old + state_bytes ≤ ROOM) × (state < Rooms.states) }
+    ensures put { output.new ≡ output.old ++ state_text accepting state }
+    ensures upper_bound { length output.new ≤ length output.old + state_bytes }
+{
+    if accepting == 1 {
+        output.number(state, b'\n');
     }
 }
 
