@@ -1,6 +1,6 @@
 // A row found or added among the rows of the expression columns.
 
-ghost use Rattle.std.specs.Prelude.{◌≡◌, ℕ, ◌≤◌, length};
+ghost use Rattle.std.specs.Prelude.{◌≡◌, ℕ, ◌≤◌, length, OnErr};
 ghost use Rattle.theory.specs.Limit.{most_expressions};
 ghost use Rattle.theory.specs.Meant.{as_sign};
 ghost use Rattle.theory.specs.Table.{entry, kind_of_sign, Sound, trees, row_tree};
@@ -44,6 +44,7 @@ impl Rows<'_> {
         ensures same { SameRows self.old self.new }
         ensures interns { Interns (rows_table self.old) self.old.used self.old.room
             (row_tree (as_row w) (trees (rows_table self.old) self.old.used)) result (rows_table self.new) self.new.used }
+        ensures full { OnErr result (self.new.used ≡ self.new.room) }
     {
         let used = self.used;
         if let Some(row) = find(self.view(), search_start(w), used, w) {

@@ -1,6 +1,6 @@
 // The rows of the expression columns: each tree once, each child before its parent, row 0 the literal empty word.
 
-ghost use Rattle.std.specs.Prelude.{◌≡◌};
+ghost use Rattle.std.specs.Prelude.{◌≡◌, OnErr};
 ghost use Rattle.theory.specs.Derivative.{empty_word};
 ghost use Rattle.theory.specs.Table.{tree_at};
 ghost use Rattle.columns.specs.Table.{read_table};
@@ -43,6 +43,7 @@ impl Rows<'_> {
         ensures same { SameRows self.old self.new }
         ensures takes { Takes (rows_table self.old) self.old.used self.old.room
             (tree_at (read_table given.entry) e) result (rows_table self.new) self.new.used }
+        ensures full { OnErr result (self.new.used ≡ self.new.room) }
     {
         let w = given.row(e);
         match w.children() {

@@ -1,6 +1,6 @@
 // The two sides of a row's derivative, the join of a member with the side's other tree, and that join undone.
 
-ghost use Rattle.std.specs.Prelude.{◌≡◌, ◌≤◌, ◌<◌, not, ◌&&◌, eqb};
+ghost use Rattle.std.specs.Prelude.{◌≡◌, ◌≤◌, ◌<◌, not, ◌&&◌, eqb, OnErr};
 ghost use Rattle.theory.specs.Limit.{most_expressions};
 ghost use Rattle.theory.specs.Table.{tree_at, entry, kind_of_sign};
 ghost use Rattle.columns.specs.Row.{as_row};
@@ -96,6 +96,7 @@ impl Rows<'_> {
         ensures interns { Interns (rows_table self.old) self.old.used self.old.room
             (beside side.join (tree_at (rows_table self.old) side.other) (tree_at (rows_table self.old) member))
             result (rows_table self.new) self.new.used }
+        ensures full { OnErr result (self.new.used ≡ self.new.room) }
     {
         if side.other == 0 {
             return Ok(member);

@@ -1,7 +1,7 @@
 // The walk along a derivative's list: whether a tree is a member, and the member after a given one. A place in a list is `None`, before
 // the list, or one of its members, as a row.
 
-ghost use Rattle.std.specs.Prelude.{◌≡◌, ◌<◌};
+ghost use Rattle.std.specs.Prelude.{◌≡◌, ◌<◌, OnErr};
 ghost use Rattle.columns.specs.Table.{read_table};
 ghost use Rattle.derive.specs.Rows.{rows_table, SameRows, Fitted};
 ghost use Rattle.derive.specs.Sides.{WithinRow};
@@ -56,6 +56,7 @@ pub fn step(
     ensures same { SameRows rows.old rows.new }
     ensures steps { RowSteps (rows_table rows.old) rows.old.used rows.old.room letter row after result
         (rows_table rows.new) rows.new.used }
+    ensures full { OnErr result (rows.new.used ≡ rows.new.room) }
 {
     let table = rows.view();
     let w = table.row(row);
@@ -105,6 +106,7 @@ fn side_step(
     ensures same { SameRows rows.old rows.new }
     ensures steps { SideSteps (rows_table rows.old) rows.old.used rows.old.room letter side after result
         (rows_table rows.new) rows.new.used }
+    ensures full { OnErr result (rows.new.used ≡ rows.new.room) }
 {
     let Some(side) = side else {
         return Ok(None);
@@ -140,6 +142,7 @@ fn fresh_step(
     ensures same { SameRows rows.old rows.new }
     ensures steps { FreshSteps (rows_table rows.old) rows.old.used rows.old.room letter a b after result
         (rows_table rows.new) rows.new.used }
+    ensures full { OnErr result (rows.new.used ≡ rows.new.room) }
 {
     let mut at = after;
     while let Some(member) = side_step(rows, letter, b, at)? {

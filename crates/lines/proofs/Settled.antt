@@ -72,7 +72,7 @@ module _ (input : Input) (bytes rest : List ℕ) (u : Unbroken bytes) (stands : 
 
     pub settled : (line : Result (Option Line) Failure) → length bytes < length column → Took input line input' column
         → LineOfBlock input bytes rest line input' column
-    settled (Ok None) l h = absurd (broken (subst Unbroken (sym h.holds) Memᴰ.not-nil))
+    settled (Ok None) l h = absurd (broken (subst Unbroken (sym h.holds.0) Memᴰ.not-nil))
     settled (Ok (Some (Ended n))) l h = elim h.holds.1 [
       | inl t ↦ of_line (let k = h.holds.0 in omega arith) t
       | inr t ↦ absurd (broken (λ m. t.1.0 (subst (Memᴰ newline) t.1.1.1 (Memᴰ.append_left t.1.1.0 m))))

@@ -165,7 +165,7 @@ module _ {column₀ column : List ℕ} {input₀ input : Input} {n : ℕ} (s : S
       go true z =
           let none = all.1 ∙ ap (λ (k : ℕ). take k column) (eqb-true n 0 z) in
           let n = ap length none in
-          record { holds = no_bytes input₀.untaken (omega (arith, simp length-append at n)) }
+          record { holds = (no_bytes input₀.untaken (omega (arith, simp length-append at n)), e.1) }
       go false z = record {
         holds = (
           within,

@@ -66,7 +66,7 @@ Comes input bytes input' = ToNewline input bytes input' ⊎ ((0 < length bytes) 
 
 -- A line as it is stored in the column, where `Over` is said of one that fills it. A read fails only where no newline is left in the block.
 abbrev pub Holds : (Input → Type 0) → Input → Result (Option Line) Failure → Input → List ℕ → Type 0
-Holds Over input (Ok None) input' column = input.untaken ≡ []
+Holds Over input (Ok None) input' column = (input.untaken ≡ []) × (input'.untaken ≡ [])
 Holds Over input (Ok (Some (Ended n))) input' column = (n < length column) × Comes input (take n column) input'
 Holds Over input (Ok (Some Full)) input' column = Over input'
 Holds Over input (Err Read) input' column = Unbroken input.untaken

@@ -90,11 +90,19 @@ impl<const ROOM: usize> Output<ROOM> {
         self.number(refusal.place, b'\n');
     }
 
+    // What is held, and no other bytes.
+    fn hand_on(&self, bytes: &[u8]) -> Result<usize, Failure>
+        requires { bytes.now ≡ self.now }
+        ensures { Wrote (length bytes.now) result }
+    {
+        hand_over(STDOUT, bytes)
+    }
+
     // What a program answers goes out whole. How many bytes that were.
     pub fn write_out(&mut self) -> Result<usize, Failure>
         ensures { WroteOut self.old result self.new }
     {
-        let count = hand_over(STDOUT, &self.block[..self.used])?;
+        let count = self.hand_on(&self.block[..self.used])?;
         self.used = 0;
         Ok(count)
     }

@@ -14,5 +14,5 @@ pub ended : {text : Text} {input : Input} {size : ℕ} {held : List ℕ} {line :
     → Asks input size held (Ok line) input' column left → Turned text input size held (Ok None) input' column left
 ended {input = input} {size} {held} {input' = input'} {column} {left} e a =
     let asked = subst (λ (r : Option Line). Asks input size held (Ok r) input' column left) e a in
-    let nothing = asked.0.shown (subst Unbroken (sym asked.1.holds) Memᴰ.not-nil) in
+    let nothing = asked.0.shown (subst Unbroken (sym asked.1.holds.0) Memᴰ.not-nil) in
     record { turns = (asked.1, subst (Left input size held) nothing asked.0, nothing) }

@@ -104,7 +104,7 @@ module _ {start input : Input} {t : Totals} {held : List ℕ} {lines : ℕ} (g :
       → Turned input size t held (Ok r) input' held' → held'' ≡ held' ++ totals_line t → Whole start held''
   no_next {size} {input' = input'} {held'} few e h p =
       let none = (subst (λ (r : Option declared.Totals). Turned input size t held (Ok r) input' held') e h).turns in
-      whole_report few none.1 none.0 (p ∙ ap (λ (x : List ℕ). x ++ totals_line t) none.2)
+      whole_report few none.2 none.0 (p ∙ ap (λ (x : List ℕ). x ++ totals_line t) none.3)
 
   -- One line too many: 22.
   cut_report : {size : ℕ} {left text : List ℕ} {input' : Input} {held' : List ℕ} → lines ≡ most_lines → Left input size held left
