@@ -10,11 +10,10 @@ use Rattle.theory.specs.Expression.{Expression}
 use Rattle.theory.specs.Refusal.{Refusal}
 use Rattle.theory.specs.Language.{Word}
 use Rattle.theory.specs.Grammar.{Text, Reading, read, refused}
-use Rattle.theory.specs.Record.{Handed, handed, Work, cleared, verdict, live, matcher_refusal}
+use Rattle.theory.specs.Record.{Handed, handed, Work, cleared, live, matcher_refusal}
 use Rattle.theory.specs.Judge.{Judgement, Judged, judgement}
 use Rattle.theory.specs.Judge as judge
-use Rattle.theory.proofs.Answers.{judgement_given, judgement_refused}
-use Rattle.theory.proofs.Handing.{given_some}
+use Rattle.theory.proofs.Answers.{judgement_refused}
 use Rattle.theory.proofs.MatcherRefusal as matching
 use Rattle.theory.proofs.States.{states_some}
 use Rattle.theory.proofs.Stated.{number_some}
@@ -94,12 +93,6 @@ module _ {text : Text} {w : Word} {s : Shown} {a : Report} {s₁ : Shown} (h : M
     | yes y ↦ y
     | no n ↦ absurd (n (sym (ap (λ (x : Judgement). x.refusal.number) (j.answers ∙ judgement_refused over k w n)) ∙ q))
   ]
-
-  -- A refusal of the matcher has a number.
-  refusal_number : {r : Refusal} → answer ≡ judge.withheld r → r.number ≡ 0 → ⊥
-  refusal_number q y =
-      let m = unrefused (ap (λ (x : Judgement). x.refusal.number) q ∙ y) in
-      given_some (verdict over w) (live over w) (ap (λ (x : Judgement). x.verdict) (sym q ∙ j.answers ∙ judgement_given over k w m))
 
   told_built : answer.refusal.number ≡ 0 → JudgesText text w s k answer s₁ k'
   told_built q = record {
