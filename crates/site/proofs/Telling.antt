@@ -54,7 +54,8 @@ refused_number h z =
     let p = states_some b.read_as.expression in
     omega arith
 
-told_as : {q : Reading} {s : Shown} (k : Work) (w : Word) {r : Refusal} → RefusedBy s r q → (judge.withheld r ≡ told q s k w) × (left_in q s ≡ blank s)
+told_as : {q : Reading} {s : Shown} (k : Work) (w : Word) {r : Refusal} → RefusedBy s r q
+    → (judge.withheld r ≡ told q s k w) × (left_in q s ≡ blank s)
 unfolding told left_in
 told_as k w unread = (refl, refl)
 told_as {s = s} k w (no_room {e} p over) = (ap judge.withheld p ∙ sym (unless_some (site_refusal e s) _ _ over), left_refused e s over)
@@ -126,7 +127,8 @@ said_success (Wrong place) = refl
 -- The matcher's answer, a verdict or a refusal, over the site's own columns.
 module _ {text : Text} {w : Word} {s s₁ : Shown} {a : Report} (h : Made text s a s₁) (z : a.refusal.number ≡ 0) {columns : ArcColumns}
     (same : columns ≡ s₁.arcs) {k k' : Work} where
-  over_own : {answer : Judgement} → Judged (handed a.states s₁.accepting a.arcs columns) w k answer k' → Judged (handed a.states s₁.accepting a.arcs s₁.arcs) w k answer k'
+  over_own : {answer : Judgement} → Judged (handed a.states s₁.accepting a.arcs columns) w k answer k'
+      → Judged (handed a.states s₁.accepting a.arcs s₁.arcs) w k answer k'
   over_own {answer} d = subst (λ (c : ArcColumns). Judged (handed a.states s₁.accepting a.arcs c) w k answer k') same d
 
   pub told_verdict : (j : Result Verdict Refused) → false ≡ is_err j → Judged (handed a.states s₁.accepting a.arcs columns) w k (values j) k'
@@ -134,7 +136,7 @@ module _ {text : Text} {w : Word} {s s₁ : Shown} {a : Report} (h : Made text s
   told_verdict (Ok v) e d = told_built h z (over_own d) (said_success v)
   told_verdict (Err r) e d = absurd (true≢false (sym e))
 
-  pub told_refusal : (j : Result Verdict Refused) → true ≡ is_err j → Judged (handed a.states s₁.accepting a.arcs columns) w k (values j) k' → {s' : Shown}
-      → s' ≡ blank s → JudgesText text w s k (values j) s' k'
+  pub told_refusal : (j : Result Verdict Refused) → true ≡ is_err j → Judged (handed a.states s₁.accepting a.arcs columns) w k (values j) k'
+      → {s' : Shown} → s' ≡ blank s → JudgesText text w s k (values j) s' k'
   told_refusal (Ok v) e d b = absurd (true≢false e)
   told_refusal (Err r) e d b = told_short h z (over_own d) (number_some r.cause) b
