@@ -109,7 +109,10 @@ fn print(line: Option<Line>, column: &[u8]) -> Result<usize, Failure>
 }
 
 // The next line is taken, and answered.
-fn answer<R: Read, const SIZE: usize>(input: &mut Input<R, SIZE>, column: &mut [u8]) -> Result<usize, Failure>
+fn answer<R: Read, const SIZE: usize>(
+    input: &mut Input<R, SIZE>,
+    column: &mut [u8],
+) -> Result<usize, Failure>
     requires { length column.old ≡ longest_text + 1 }
     ensures { Answers input.old result input.new }
 {
