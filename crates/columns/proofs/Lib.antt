@@ -1,2 +1,1 @@
 pub mod ByteAt
-pub mod Children

@@ -21,6 +21,7 @@ pub enum Children {
 }
 
 impl Row {
+    #[tactic(auto, unfolding(theory::specs::Table::row_children, theory::specs::Table::children))]
     pub fn children(self) -> Children
         ensures { as_children result ≡ row_children (as_row self) }
     {

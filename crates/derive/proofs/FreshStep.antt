@@ -29,7 +29,8 @@ pub record PassedOver (t : Table) (n room a : ℕ) (x y : Option Side) (p : Opti
   pub place : InList t' n' p' (side_list a t y)
   pub rest : beyond same (side_list a t x) (to_come t' p' (side_list a t y)) ≡ beyond same (side_list a t x) (to_come t p (side_list a t y))
 
-module _ {t : Table} {n room a : ℕ} {x y : Option Side} {p : Option ℕ} {t' : Table} {n' : ℕ} {p' : Option ℕ} (k : PassedOver t n room a x y p t' n' p') where
+module _ {t : Table} {n room a : ℕ} {x y : Option Side} {p : Option ℕ} {t' : Table} {n' : ℕ} {p' : Option ℕ}
+    (k : PassedOver t n room a x y p t' n' p') where
   abbrev xs : List Expression
   xs = side_list a t x
 
@@ -99,7 +100,8 @@ module _ {t : Table} {n room a : ℕ} {x y : Option Side} {p : Option ℕ} {t' :
             }
 
     -- y's list ended.
-    pub turn_ended : {o : Option ℕ} → Steps t' n' room (side_list a t' y) p' (Ok o) t'' u → o ≡ None → Gives t n room ys (beyond same xs (to_come t p ys)) (Ok None) t'' u
+    pub turn_ended : {o : Option ℕ} → Steps t' n' room (side_list a t' y) p' (Ok o) t'' u → o ≡ None
+        → Gives t n room ys (beyond same xs (to_come t p ys)) (Ok None) t'' u
     turn_ended {o} g e =
         let o = (gives_as (ap (λ v. Ok v) e) (step_then (Ok o) g)).outcome in
         record {

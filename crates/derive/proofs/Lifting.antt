@@ -49,8 +49,8 @@ module _ {t : Table} {n room other member : ℕ} (f : Fitted t n room) (there : 
     pub lift_sound : Sound n w
     lift_sound = subst (Sound n) (sym is) (joined_sound j)
 
-    pub lift_pair : {t' : Table} {n' : ℕ} {r : Result ℕ NoRoom} → (other ≡ 0 → ⊥) → (member ≡ 0 → ⊥) → Interns t n room (row_tree w (trees t n)) r t' n'
-        → Interns t n room (beside j (tree_at t other) (tree_at t member)) r t' n'
+    pub lift_pair : {t' : Table} {n' : ℕ} {r : Result ℕ NoRoom} → (other ≡ 0 → ⊥) → (member ≡ 0 → ⊥)
+        → Interns t n room (row_tree w (trees t n)) r t' n' → Interns t n room (beside j (tree_at t other) (tree_at t member)) r t' n'
     lift_pair {t'} {n'} {r} d c h =
         subst (λ e. Interns t n room e r t' n')
         (ap (λ v. row_tree v (trees t n)) is ∙ joined_tree j

@@ -146,7 +146,8 @@ behind_beyond p [] ys n = refl
 behind_beyond p (x ∷ xs) ys n =
     behind_without p x (beyond same xs ys) (λ e. n (Memᴰ.head e)) ∙ ap (without same x) (behind_beyond p xs ys (λ m. n (Memᴰ.tail m)))
 
-pub map_no_repeats : (f : Expression → Expression) → ((x y : Expression) → f x ≡ f y → x ≡ y) → (xs : List Expression) → NoRepeats xs → NoRepeats (map f xs)
+pub map_no_repeats : (f : Expression → Expression) → ((x y : Expression) → f x ≡ f y → x ≡ y) → (xs : List Expression) → NoRepeats xs
+    → NoRepeats (map f xs)
 map_no_repeats f tells [] r = tt
 map_no_repeats f tells (x ∷ xs) r = (
   λ m. let k = Memᴰ.of_map f xs m in r.0 (Memᴰ.cast (tells x k.0 (sym k.2)) k.1),

@@ -129,7 +129,8 @@ module _ (t : Table) (i : ℕ) {w : Row} (e : w ≡ row t i) where
         word_both z = ap₂ ◌&&◌ ea eb ∙ go s refl ∙ sym word_sign
           where
             go : (v : CodeSign) → s ≡ v
-                → (empty_word (tree_at t w.left) && empty_word (tree_at t w.right)) ≡ empty_word (binary (as_sign v) (tree_at t w.left) (tree_at t w.right))
+                → (empty_word (tree_at t w.left) && empty_word (tree_at t w.right))
+                ≡ empty_word (binary (as_sign v) (tree_at t w.left) (tree_at t w.right))
             go Union p = absurd (z p)
             go Concatenation p = refl
             go Shuffle p = refl

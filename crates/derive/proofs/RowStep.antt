@@ -48,7 +48,8 @@ module _ {t : Table} {n room i : ℕ} {w : Row} (k : Lettered t n i w) (f : Fitt
   by_test false e None j = none_left None (ap first_of (letter_list k a false e))
   by_test false e (Some p) j = absurd (Memᴰ.not-nil (subst (Memᴰ (tree_at t p)) (letter_list k a false e) j.1))
 
-  pub letter_steps : (place : Option ℕ) {r : Option ℕ} → InList t n place own → r ≡ letter_step (eqb w.left a) place → Steps t n room own place (Ok r) t n
+  pub letter_steps : (place : Option ℕ) {r : Option ℕ} → InList t n place own → r ≡ letter_step (eqb w.left a) place
+      → Steps t n room own place (Ok r) t n
   letter_steps place j q = gives_as (ap (λ s. Ok s) (sym q)) (by_test (eqb w.left a) refl place j)
 
 -- ---- A list of two
@@ -130,8 +131,8 @@ module _ {t : Table} {n i : ℕ} {x y : Option Side} (k : TwoSides t n i x y) (a
     step_full {r = r} g e = gives_short r e (short_for (λ z p. inr (part_within (left_has k a) z p)) g.outcome)
 
     -- The place is one of the right side's that the left side does not have.
-    pub step_right : (Stands t place A → ⊥) → (r : Result (Option ℕ) NoRoom) {t' : Table} {n' : ℕ} → Gives t n room B (beyond same A (to_come t place B)) r t' n'
-        → Steps t n room whole place r t' n'
+    pub step_right : (Stands t place A → ⊥) → (r : Result (Option ℕ) NoRoom) {t' : Table} {n' : ℕ}
+        → Gives t n room B (beyond same A (to_come t place B)) r t' n' → Steps t n room whole place r t' n'
     step_right d r g = gives_then (came_none (PartOf whole) f) (right_has k a) (ap first_of (coming_right t A B two_lists place d)) r g
 
     -- The left side's list has ended, in the table t' with u rows, and the walk goes on at the start of the right side.

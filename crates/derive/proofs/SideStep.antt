@@ -117,7 +117,8 @@ module _ {t : Table} {n a : ℕ} {side : Option Side} {s : Side} {place inner : 
       )
 
       -- It is joined, found or added; or there is no room for it.
-      pub side_lifted : {i : ℕ} {t₂ : Table} {v : ℕ} → Interns t₁ u room lifted (Ok i) t₂ v → Steps t n room (side_list a t side) place (Ok (Some i)) t₂ v
+      pub side_lifted : {i : ℕ} {t₂ : Table} {v : ℕ} → Interns t₁ u room lifted (Ok i) t₂ v
+          → Steps t n room (side_list a t side) place (Ok (Some i)) t₂ v
       side_lifted f =
           let o = (answered_then (came_for needed_side found.came) lifted_part f).answer in
           record { outcome = record { came = o.came; there = o.there; is = lifted_first ∙ ap (λ z. Some z) (sym o.is) } }

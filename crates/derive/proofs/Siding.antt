@@ -65,7 +65,8 @@ module _ {t : Table} {n : ℕ} (h : Rows t n) (a i : ℕ) where
       ms : List Expression
       ms = map (λ z. joined concatenation z (tree_at t r)) (derivative a (tree_at t l))
 
-      go : (b : Bool) → distinct same (ms ++ cond b (derivative a (tree_at t r)) []) ≡ distinct same (ms ++ side_list a t (pick b (side_of r 0 Followed) None))
+      go : (b : Bool)
+          → distinct same (ms ++ cond b (derivative a (tree_at t r)) []) ≡ distinct same (ms ++ side_list a t (pick b (side_of r 0 Followed) None))
       go true = ap (λ c. distinct same (ms ++ c)) (sym (plain h a r))
       go false = refl
   sign_lists shuffle l r e = e
@@ -88,7 +89,8 @@ module _ {t : Table} {n : ℕ} (h : Rows t n) (a i : ℕ) where
   by_root (letter_row b e tr) d = absurd (d (kind_is e))
   by_root (sign_row s l r hl hr e tr) d =
       sign_lists s l r (ap (derivative a) tr ∙ derivative_pair a s (tree_at t l) (tree_at t r))
-      ∙ ap₂ (λ b c. distinct same (side_list a t b ++ side_list a t c)) (left_as t i (sym e) (sign_kind s) refl) (right_as t i (sym e) (sign_kind s) refl)
+      ∙ ap₂ (λ b c. distinct same (side_list a t b ++ side_list a t c)) (left_as t i (sym e) (sign_kind s) refl)
+      (right_as t i (sym e) (sign_kind s) refl)
   by_root (star_row l hl e tr) d =
       star_lists l tr
       ∙ ap₂ (λ b c. distinct same (side_list a t b ++ side_list a t c)) (left_as t i (sym e) star_kind refl) (right_as t i (sym e) star_kind refl)

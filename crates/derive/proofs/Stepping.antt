@@ -58,8 +58,8 @@ to_come_within t None ms z m = m
 to_come_within t (Some p) ms z m = behind_within (tree_at t p) ms z m
 
 -- One member further in a list without repeats.
-pub next_to_come : (t t' : Table) (p : Option ℕ) (ms : List Expression) (row : ℕ) (ys : List Expression) → NoRepeats ms → to_come t p ms ≡ tree_at t' row ∷ ys
-    → to_come t' (Some row) ms ≡ ys
+pub next_to_come : (t t' : Table) (p : Option ℕ) (ms : List Expression) (row : ℕ) (ys : List Expression) → NoRepeats ms
+    → to_come t p ms ≡ tree_at t' row ∷ ys → to_come t' (Some row) ms ≡ ys
 next_to_come t t' None ms row ys once e = ap (behind (tree_at t' row)) e ∙ behind_head (tree_at t' row) ys
 next_to_come t t' (Some p) ms row ys once e = behind_next (tree_at t p) (tree_at t' row) ms ys once e
 

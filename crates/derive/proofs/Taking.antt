@@ -69,7 +69,9 @@ module _ {g : Table} {j : ℕ} {w : Row} {named : Children} (k : Read g j w name
         → Interns t₁ u room (row_tree (entry w.kind x w.right) (trees t₁ u)) r t₂ v → Takes t n room (tree_at g j) r t₂ v
     takes_star {x = x} d h =
         takes_after (came_part (tree_at g c) (tree_at g j) (star_parts q) d.came)
-        (ap (λ i. row_tree i (trees t₁ u)) (star_with k q x) ∙ star_tree x (trees t₁ u) ∙ ap star (trees_below t₁ u x d.there ∙ d.is) ∙ sym (star_read k q).1) h
+        (ap (λ i. row_tree i (trees t₁ u)) (star_with k q x) ∙ star_tree x (trees t₁ u) ∙ ap star (trees_below t₁ u x d.there ∙ d.is)
+        ∙ sym (star_read k q).1)
+        h
 
     pub star_full : {x : NoRoom} {r : Result ℕ NoRoom} → Takes t n room (tree_at g c) (Err x) t₁ u → IsErr r → Takes t n room (tree_at g j) r t₁ u
     star_full {r = r} h e = full_for r e (short_part (tree_at g c) (tree_at g j) (star_parts q) h.answer)

@@ -93,13 +93,7 @@ lists_automaton {answer = answer} {s'} h b {before} p q = record {
       ∙ ap (λ (x : List ℕ). before ++ x) (listing_is b);
 }
 
--- ---- What is handed on to be written
-
-pub prints : {text : Text} {before held : List ℕ} (written : Result ℕ Failure) (left : List ℕ) → before ≡ [] → Lists text before held
-    → WroteOut held written left → Prints text written
-prints (Ok n) left e l w = record { bytes = l.bytes; printed = l.printed; all = w.0 ∙ ap length (l.put ∙ ap (λ (x : List ℕ). x ++ l.bytes) e) }
-prints (Err Write) left e l w = record { bytes = l.bytes; printed = l.printed; all = tt }
-prints (Err Read) left e l w = absurd w
+-- ---- Where no line is taken
 
 -- No line was taken where a read failed.
 pub none_taken : {input input' : Input} {column : List ℕ} (f : Failure) → Took input (Err f) input' column → Answers input (Err f) input'

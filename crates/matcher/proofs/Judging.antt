@@ -1,22 +1,21 @@
 -- From the refusal, or from the walk's answer, to the judgement; and what a walk starts from where nothing is refused.
-use Prim.Native.Nat.{ℕ, ◌≤◌}
+use Prim.Native.Nat.{ℕ}
 use native.Mathlib.Omega.{arith}
 use mathlib.Core.Path.{◌≡◌, sym, ap, ◌∙◌}
 use mathlib.Core.Bool.{Bool, ◌||◌}
 use mathlib.Core.List.{List}
 use lib.ListN.{length}
 use lib.Dec.{eqb}
-use Rattle.std.proofs.Common.{rules}
 use Rattle.theory.specs.Language.{Word}
 use Rattle.theory.specs.Refusal.{Refusal, success}
-use Rattle.theory.specs.Stated.{number, stated}
-use Rattle.theory.specs.declared.refusal.Cause.{Cause}
+use Rattle.theory.specs.Stated.{stated}
 use Rattle.theory.specs.declared.refusal.Refusal.{Refusal as CodeRefusal}
 use Rattle.theory.specs.Arcs.{start}
 use Rattle.theory.specs.Record.{Handed, Work, work, cleared, WellFormedAutomaton, verdict, live, matcher_refusal}
 use Rattle.theory.specs.Judge.{Judgement, given, withheld, judgement}
 use Rattle.theory.proofs.Answers.{judgement_given, judgement_refused}
 use Rattle.theory.proofs.MatcherRefusal.{not_refused}
+use Rattle.theory.proofs.Stated.{number_some}
 use Rattle.sets.specs.Bits.{bit}
 use Rattle.sets.proofs.Digits.{none_set}
 use Rattle.matcher.specs.Moves.{Checked, Ready}
@@ -56,16 +55,12 @@ module _ (h : Handed) (k : Work) (none : success ≡ matcher_refusal h k) where
 
 -- ---- The judgement
 
--- A cause's number is not that of success.
-number_some : (cause : Cause) → 1 ≤ number cause
-number_some cause = search rules
-
 module _ (h : Handed) (k : Work) (w : Word) where
   pub judged_refused : (r : CodeRefusal) → stated r ≡ matcher_refusal h k → withheld (stated r) ≡ judgement h k w
   judged_refused r e =
       ap withheld e
       ∙ sym (judgement_refused h k w
-      (λ q. let some = number_some r.cause in let same = ap (λ (s : Refusal). s.number) e in absurd (omega arith)))
+      (λ q. number_some r.cause (ap (λ (s : Refusal). s.number) e ∙ q)))
 
   pub judged_given : success ≡ matcher_refusal h k → {answer : Judgement} → answer ≡ given (verdict h w) (live h w) → answer ≡ judgement h k w
   judged_given none a = a ∙ sym (judgement_given h k w (sym (ap (λ (r : Refusal). r.number) none)))

@@ -1,33 +1,23 @@
 -- Between two turns of the records program.
-use Prim.Native.Nat.{ℕ, ◌+◌, ◌≤◌}
+use Prim.Native.Nat.{ℕ, ◌+◌}
 use native.Mathlib.Omega.{arith}
 use mathlib.Core.Path.{◌≡◌}
 use mathlib.Core.List.{List}
 use lib.ListN.{length}
 use Rattle.theory.specs.Grammar.{Text}
 use Rattle.theory.specs.Record.{Handed, work, words, LongEnough}
-use Rattle.lines.specs.declared.input.Input.{Input}
-use Rattle.lines.specs.Input.{Inside}
 use Rattle.theory.specs.Rooms
 use Rattle.site.specs.Sited.{Sited}
 use Rattle.site.proofs.Judging.{few_states}
 use Rattle.records.specs.Answer.{longest_record}
 
-abbrev answers_room : ℕ
-answers_room = 4096
-
--- The columns keep their lengths, and what is used is within the block.
-pub record Going (taken₀ taken column current next block : List ℕ) (input : Input) (used : ℕ) : Type 0 where
-  pub inside : Inside input taken
-  pub taken_length : length taken ≡ length taken₀
+-- The columns keep their lengths.
+pub record Going (column current next : List ℕ) : Type 0 where
   pub column_length : length column ≡ longest_record + 1
   pub current_length : length current ≡ words Rooms.states
   pub next_length : length next ≡ words Rooms.states
-  pub block_length : length block ≡ answers_room
-  pub within : used ≤ length block
 
-module _ {taken₀ taken column current next block : List ℕ} {input : Input} {used : ℕ}
-    (g : Going taken₀ taken column current next block input used) where
+module _ {column current next : List ℕ} (g : Going column current next) where
   -- The work columns hold a bit for each state.
   pub long_enough : {text : Text} {h : Handed} → Sited text h → LongEnough (work current next) h.states
   long_enough x =

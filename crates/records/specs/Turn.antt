@@ -1,38 +1,28 @@
 -- What a turn of the records program does: the next line is taken, and its answer stands after what is left of the answers before it.
-use Rattle.std.specs.Prelude.{ℕ, ◌≡◌, List, length}
+use Rattle.std.specs.Prelude.{ℕ, ◌≡◌, List, [], Option, None, Some, Result, Ok, Err}
 use Rattle.theory.specs.Grammar.{Text}
-use Rattle.lines.specs.declared.input.Input.{Input}
+use Rattle.lines.specs.declared.failure.Failure.{Failure}
+use Rattle.lines.specs.declared.failure.Failure.TheVariants.{Read, Write}
 use Rattle.lines.specs.declared.input.Line.{Line}
-use Rattle.lines.specs.declared.input.Line.TheVariants.{None, Ended, Full, Failed}
-use Rattle.lines.specs.Input.{TookWhole}
+use Rattle.lines.specs.Input.{Input, TookWhole}
 use Rattle.lines.specs.Turn.{Left, Due}
 use Rattle.records.specs.Answer.{Answered}
-use Rattle.records.specs.declared.answers.Turn.{Turn}
-use Rattle.records.specs.declared.answers.Turn.TheVariants.{Next, End, ReadFailed, WriteFailed}
 
-pub record Answers (text : Text) (taken : List ℕ) (input : Input) (block : List ℕ) (used : ℕ) (line : Line) (taken' column block' : List ℕ)
-    (used' : ℕ) : Type 0 where
-  pub left : ℕ
-  pub leaves : Left taken input (length block) used left
-  pub took : TookWhole taken input line taken' column
-  pub answered : Answered text line column block left block' used'
-
--- The next line begins after this one.
-abbrev pub Follows : Line → Input → Type 0
-Follows None input = ⊥
-Follows (Ended n after) input = after ≡ input
-Follows (Full after) input = after ≡ input
-Follows Failed input = ⊥
+-- A line was taken, and answered.
+pub record Answers (text : Text) (input : Input) (size : ℕ) (held : List ℕ) (line : Line) (input' : Input) (column held' : List ℕ) : Type 0 where
+  pub left : List ℕ
+  pub leaves : Left input size held left
+  pub took : TookWhole input (Ok (Some line)) input' column
+  pub answered : Answered text line column left held'
 
 -- Where the input ends or a read fails, nothing is left to be written. A write fails only where one is due, and then no line is taken.
-abbrev pub Turns : Text → List ℕ → Input → List ℕ → ℕ → Turn → List ℕ → List ℕ → List ℕ → Type 0
-Turns text taken input block used (Next input' used') taken' column block' =
-    (line : Line) × Answers text taken input block used line taken' column block' used' × Follows line input'
-Turns text taken input block used End taken' column block' = Answers text taken input block used None taken' column block' 0
-Turns text taken input block used ReadFailed taken' column block' = Answers text taken input block used Failed taken' column block' 0
-Turns text taken input block used WriteFailed taken' column block' =
-    Due taken input (length block) used × (taken' ≡ taken) × (block' ≡ block)
+abbrev pub Turns : Text → Input → (size : ℕ) → List ℕ → Result (Option Line) Failure → Input → List ℕ → List ℕ → Type 0
+Turns text input size held (Ok (Some line)) input' column held' = Answers text input size held line input' column held'
+Turns text input size held (Ok None) input' column held' = TookWhole input (Ok None) input' column × Left input size held [] × (held' ≡ [])
+Turns text input size held (Err Read) input' column held' = TookWhole input (Err Read) input' column × Left input size held [] × (held' ≡ [])
+Turns text input size held (Err Write) input' column held' = Due input size held × (input' ≡ input) × (held' ≡ held)
 
 -- What `answer_next` owes.
-pub record Turned (text : Text) (taken : List ℕ) (input : Input) (block : List ℕ) (used : ℕ) (turn : Turn) (taken' column block' : List ℕ) : Type 0 where
-  pub turns : Turns text taken input block used turn taken' column block'
+pub record Turned (text : Text) (input : Input) (size : ℕ) (held : List ℕ) (turn : Result (Option Line) Failure) (input' : Input)
+    (column held' : List ℕ) : Type 0 where
+  pub turns : Turns text input size held turn input' column held'

@@ -1,141 +1,96 @@
-// A line as it was taken, and its answer after what a block holds.
+// A line as it was taken, and its answer after what is not written yet.
 
-ghost use Rattle.std.specs.Prelude.{◌+◌, ◌≤◌, ◌≡◌, ◌++◌, length};
-ghost use Rattle.theory.specs.Arcs.{arc_columns};
-ghost use Rattle.theory.specs.Record.{handed, work, LongEnough};
+ghost use Rattle.std.specs.Prelude.{◌+◌, ◌≤◌, ◌≡◌, ◌++◌, Some, length};
+ghost use Rattle.theory.specs.Record.{LongEnough};
 ghost use Rattle.theory.specs.Lines.{number_and, newline};
-ghost use Rattle.lines.specs.Input.{Inside, Whole};
-ghost use Rattle.lines.specs.Output.{Put, number_room, line_room};
+ghost use Rattle.columns.specs.Work.{lent_work, SameWork};
+ghost use Rattle.lines.specs.Input.{Whole};
+ghost use Rattle.lines.specs.Output.{number_room, line_room};
+ghost use Rattle.matcher.specs.Automaton.{handed_over};
 ghost use Rattle.site.specs.Sited.{Sited};
 ghost use Rattle.records.specs.Answer.{longest_record, judgement_line, Answered};
 ghost use Rattle.records.specs.Turn.{Turned};
 
+use columns::work::Work;
+use lines::failure::Failure;
 use lines::input::{Input, Line};
-use lines::output;
-use lines::turn::Asked;
-use matcher::Judgement;
+use lines::output::Output;
+use matcher::Verdict;
+use matcher::automaton::Automaton;
 use std::io::Read;
+use theory::refusal::{Cause, Refusal};
 
-fn line(block: &mut [u8], used: usize, word: &[u8], n: usize) -> usize
-    requires { used + (length word.now + number_room) ≤ length block.old }
-    ensures put { Put (word.now ++ number_and n newline) block.old used block.new result }
-    ensures upper_bound { result ≤ used + (length word.now + number_room) }
+fn line<const ROOM: usize>(output: &mut Output<ROOM>, word: &[u8], n: usize)
+    requires { length output.old + (length word.now + number_room) ≤ ROOM }
+    ensures put { output.new ≡ output.old ++ (word.now ++ number_and n newline) }
+    ensures upper_bound { length output.new ≤ length output.old + (length word.now + number_room) }
 {
-    let said = output::word(block, used, word);
-    output::number(block, said, n, b'\n')
+    output.word(word);
+    output.number(n, b'\n');
 }
 
 // 01: "prints per record `accepted L`, `unfinished L` (L is live) or `wrong P`".
-fn verdict(block: &mut [u8], used: usize, judgement: Judgement) -> usize
-    requires { used + line_room ≤ length block.old }
-    ensures put { Put (judgement_line judgement) block.old used block.new result }
-    ensures upper_bound { result ≤ used + line_room }
+fn verdict<const ROOM: usize>(output: &mut Output<ROOM>, verdict: Result<Verdict, Refusal>)
+    requires { length output.old + line_room ≤ ROOM }
+    ensures put { output.new ≡ output.old ++ judgement_line verdict }
+    ensures upper_bound { length output.new ≤ length output.old + line_room }
 {
-    match judgement {
-        Judgement::Accepted { live } => line(block, used, b"accepted ", live),
-        Judgement::Unfinished { live } => line(block, used, b"unfinished ", live),
-        Judgement::Wrong { place } => line(block, used, b"wrong ", place),
-        Judgement::Refused { number } => output::refused(block, used, number, 0),
+    match verdict {
+        Ok(Verdict::Accepted { live }) => line(output, b"accepted ", live),
+        Ok(Verdict::Unfinished { live }) => line(output, b"unfinished ", live),
+        Ok(Verdict::Wrong { place }) => line(output, b"wrong ", place),
+        Err(refusal) => output.refused(refusal),
     }
 }
 
 // A line as it was taken, on the automaton of the text.
-fn answer(
+fn answer<const ROOM: usize>(
     text: &[u8],
     line: Line,
     column: &[u8],
-    states: usize,
-    accepting: &[u8],
-    arcs: usize,
-    from: &[u16],
-    letter: &[u8],
-    to: &[u16],
-    current: &mut [u64],
-    next: &mut [u64],
-    block: &mut [u8],
-    used: usize,
-) -> usize
-    requires sited { Sited text.now (handed states accepting.now arcs (arc_columns from.now letter.now to.now)) }
-    requires long_enough { LongEnough (work current.old next.old) states }
-    requires whole { Whole longest_record line column.now × (used + line_room ≤ length block.old) }
-    ensures { Answered text.now line column.now block.old used block.new result }
+    automaton: Automaton<'_>,
+    work: &mut Work<'_>,
+    output: &mut Output<ROOM>,
+)
+    requires sited { Sited text.now (handed_over automaton) }
+    requires long_enough { LongEnough (lent_work work.old) automaton.states }
+    requires whole { Whole longest_record (Some line) column.now × (length output.old + line_room ≤ ROOM) }
+    ensures same { SameWork work.old work.new }
+    ensures answered { Answered text.now line column.now output.old output.new }
 {
     match line {
-        Line::None => used,
-        Line::Failed => used,
-        Line::Full { input: _ } => output::refused(block, used, theory::refusal::RECORD_LONG, 0),
-        Line::Ended { length, input: _ } => {
-            let judgement = site::verdict(
-                text,
-                states,
-                accepting,
-                arcs,
-                from,
-                letter,
-                to,
-                &column[..length],
-                current,
-                next,
-            );
-            verdict(block, used, judgement)
+        Line::Full => output.refused(Refusal {
+            cause: Cause::RecordLong,
+            place: 0,
+        }),
+        Line::Ended { length } => {
+            let judged = site::verdict(text, automaton, &column[..length], work);
+            verdict(output, judged);
         }
     }
 }
 
-#[derive(Drop)]
-pub enum Turn {
-    Next { input: Input, used: usize },
-    End,
-    ReadFailed,
-    WriteFailed,
-}
-
 // The next line and its answer.
-pub fn answer_next<R: Read>(
-    source: &mut R,
+pub fn answer_next<R: Read, const SIZE: usize, const ROOM: usize>(
+    input: &mut Input<R, SIZE>,
     text: &[u8],
-    taken: &mut [u8],
-    input: Input,
     column: &mut [u8],
-    states: usize,
-    accepting: &[u8],
-    arcs: usize,
-    from: &[u16],
-    letter: &[u8],
-    to: &[u16],
-    current: &mut [u64],
-    next: &mut [u64],
-    block: &mut [u8],
-    used: usize,
-) -> Turn
-    requires sited { Sited text.now (handed states accepting.now arcs (arc_columns from.now letter.now to.now)) }
-    requires long_enough { LongEnough (work current.old next.old) states }
-    requires inside { Inside input taken.old × (length column.old ≡ longest_record + 1) }
-    requires used_in_bounds { (used ≤ length block.old) × (line_room ≤ length block.old) }
-    ensures { Turned text.now taken.old input block.old used result taken.new column.new block.new }
+    automaton: Automaton<'_>,
+    work: &mut Work<'_>,
+    output: &mut Output<ROOM>,
+) -> Result<Option<Line>, Failure>
+    requires sited { Sited text.now (handed_over automaton) }
+    requires long_enough { LongEnough (lent_work work.old) automaton.states }
+    requires in_rooms { (length column.old ≡ longest_record + 1) × (line_room ≤ ROOM) }
+    ensures same { SameWork work.old work.new }
+    ensures turned { Turned text.now input.old ROOM output.old result input.new column.new output.new }
 {
-    match lines::turn::ask(source, taken, input, column, block, used) {
-        Asked::WriteFailed => Turn::WriteFailed,
-        Asked::Line { line, used: left } => {
-            let answered = answer(
-                text, line, column, states, accepting, arcs, from, letter, to, current, next,
-                block, left,
-            );
-            match line {
-                Line::None => Turn::End,
-                Line::Failed => Turn::ReadFailed,
-                Line::Ended {
-                    length: _,
-                    input: after,
-                } => Turn::Next {
-                    input: after,
-                    used: answered,
-                },
-                Line::Full { input: after } => Turn::Next {
-                    input: after,
-                    used: answered,
-                },
-            }
+    let asked = lines::turn::ask(input, column, output)?;
+    match asked {
+        None => Ok(None),
+        Some(line) => {
+            answer(text, line, column, automaton, work, output);
+            Ok(Some(line))
         }
     }
 }

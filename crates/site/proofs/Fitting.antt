@@ -27,10 +27,12 @@ unfolding even
 even_beside s = refl
 
 -- The builder refuses of the rows of e what the site refuses of e.
-pub site_built : (e : Expression) → Writable e → entries e ≤ most_entries → (s : Shown) → build_refusal (columns (rows 0 e)) (beside s) ≡ site_refusal e s
+pub site_built : (e : Expression) → Writable e → entries e ≤ most_entries → (s : Shown)
+    → build_refusal (columns (rows 0 e)) (beside s) ≡ site_refusal e s
 unfolding site_refusal
 site_built e w l s =
-    refusal_by (columns (rows 0 e)) (beside s) (even_beside s) (rows_refused_never e w l) (ap (λ (x : Expression). over_room x (beside s)) (rows_tree e))
+    refusal_by (columns (rows 0 e)) (beside s) (even_beside s) (rows_refused_never e w l)
+    (ap (λ (x : Expression). over_room x (beside s)) (rows_tree e))
 
 -- Nothing is refused: the columns are equally long, and the needs are within the rooms.
 pub record Fits (e : Expression) (s : Shown) : Type 0 where

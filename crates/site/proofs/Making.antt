@@ -170,7 +170,14 @@ module _ {text : Text} {n : ℕ} {t' : Table} (h : Read text entry_columns (reco
             due = due;
             answers =
                 (λ i.
-                record { refusal = success; entries = counted i; letters = l i; states = (c i).states; expressions = (c i).expressions; arcs = (c i).arcs })
+                record {
+                  refusal = success;
+                  entries = counted i;
+                  letters = l i;
+                  states = (c i).states;
+                  expressions = (c i).expressions;
+                  arcs = (c i).arcs;
+                })
                 ∙ sym (answered_built read_as.expression s z);
             leaves = stands_in read_as b z;
           }

@@ -10,11 +10,10 @@ use Rattle.theory.specs.Expression.{Expression}
 use Rattle.theory.specs.Refusal.{Refusal}
 use Rattle.theory.specs.Language.{Word}
 use Rattle.theory.specs.Grammar.{Text, Reading, read, refused}
-use Rattle.theory.specs.Record.{Handed, handed, Work, cleared, verdict, live, matcher_refusal}
+use Rattle.theory.specs.Record.{Handed, handed, Work, cleared, live, matcher_refusal}
 use Rattle.theory.specs.Judge.{Judgement, Judged, judgement}
 use Rattle.theory.specs.Judge as judge
-use Rattle.theory.proofs.Answers.{judgement_given, judgement_refused}
-use Rattle.theory.proofs.Handing.{given_some}
+use Rattle.theory.proofs.Answers.{judgement_refused}
 use Rattle.theory.proofs.MatcherRefusal as matching
 use Rattle.theory.proofs.States.{states_some}
 use Rattle.theory.proofs.Stated.{number_some}
@@ -55,7 +54,8 @@ refused_number h z =
     let p = states_some b.read_as.expression in
     omega arith
 
-told_as : {q : Reading} {s : Shown} (k : Work) (w : Word) {r : Refusal} → RefusedBy s r q → (judge.withheld r ≡ told q s k w) × (left_in q s ≡ blank s)
+told_as : {q : Reading} {s : Shown} (k : Work) (w : Word) {r : Refusal} → RefusedBy s r q
+    → (judge.withheld r ≡ told q s k w) × (left_in q s ≡ blank s)
 unfolding told left_in
 told_as k w unread = (refl, refl)
 told_as {s = s} k w (no_room {e} p over) = (ap judge.withheld p ∙ sym (unless_some (site_refusal e s) _ _ over), left_refused e s over)
@@ -95,12 +95,6 @@ module _ {text : Text} {w : Word} {s : Shown} {a : Report} {s₁ : Shown} (h : M
     | no n ↦ absurd (n (sym (ap (λ (x : Judgement). x.refusal.number) (j.answers ∙ judgement_refused over k w n)) ∙ q))
   ]
 
-  -- A refusal of the matcher has a number.
-  refusal_number : {r : Refusal} → answer ≡ judge.withheld r → r.number ≡ 0 → ⊥
-  refusal_number q y =
-      let m = unrefused (ap (λ (x : Judgement). x.refusal.number) q ∙ y) in
-      given_some (verdict over w) (live over w) (ap (λ (x : Judgement). x.verdict) (sym q ∙ j.answers ∙ judgement_given over k w m))
-
   told_built : answer.refusal.number ≡ 0 → JudgesText text w s k answer s₁ k'
   told_built q = record {
     reading = h.reading;
@@ -133,7 +127,8 @@ said_success (Wrong place) = refl
 -- The matcher's answer, a verdict or a refusal, over the site's own columns.
 module _ {text : Text} {w : Word} {s s₁ : Shown} {a : Report} (h : Made text s a s₁) (z : a.refusal.number ≡ 0) {columns : ArcColumns}
     (same : columns ≡ s₁.arcs) {k k' : Work} where
-  over_own : {answer : Judgement} → Judged (handed a.states s₁.accepting a.arcs columns) w k answer k' → Judged (handed a.states s₁.accepting a.arcs s₁.arcs) w k answer k'
+  over_own : {answer : Judgement} → Judged (handed a.states s₁.accepting a.arcs columns) w k answer k'
+      → Judged (handed a.states s₁.accepting a.arcs s₁.arcs) w k answer k'
   over_own {answer} d = subst (λ (c : ArcColumns). Judged (handed a.states s₁.accepting a.arcs c) w k answer k') same d
 
   pub told_verdict : (j : Result Verdict Refused) → false ≡ is_err j → Judged (handed a.states s₁.accepting a.arcs columns) w k (values j) k'
@@ -141,7 +136,7 @@ module _ {text : Text} {w : Word} {s s₁ : Shown} {a : Report} (h : Made text s
   told_verdict (Ok v) e d = told_built h z (over_own d) (said_success v)
   told_verdict (Err r) e d = absurd (true≢false (sym e))
 
-  pub told_refusal : (j : Result Verdict Refused) → true ≡ is_err j → Judged (handed a.states s₁.accepting a.arcs columns) w k (values j) k' → {s' : Shown}
-      → s' ≡ blank s → JudgesText text w s k (values j) s' k'
+  pub told_refusal : (j : Result Verdict Refused) → true ≡ is_err j → Judged (handed a.states s₁.accepting a.arcs columns) w k (values j) k'
+      → {s' : Shown} → s' ≡ blank s → JudgesText text w s k (values j) s' k'
   told_refusal (Ok v) e d b = absurd (true≢false e)
   told_refusal (Err r) e d b = told_short h z (over_own d) (number_some r.cause) b

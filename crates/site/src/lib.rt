@@ -7,16 +7,14 @@ pub mod totals;
 ghost use Rattle.std.specs.Prelude.{◌≡◌, length, get_or, eqb};
 ghost use Rattle.theory.specs.Kind as numbers;
 ghost use Rattle.theory.specs.Below.{count_below};
-ghost use Rattle.theory.specs.Table.{SameLengths};
 ghost use Rattle.theory.specs.Record.{LongEnough};
-ghost use Rattle.theory.specs.Build.{lent, Built};
 ghost use Rattle.columns.specs.Arcs.{lent_arcs, SameArcs};
 ghost use Rattle.columns.specs.Table.{read_table};
 ghost use Rattle.columns.specs.Work.{lent_work, SameWork};
 ghost use Rattle.builder.specs.Answer.{answer as counted};
 ghost use Rattle.matcher.specs.Answer.{values as judged};
 ghost use Rattle.matcher.specs.Automaton.{handed_over};
-ghost use Rattle.site.specs.Site.{shown, beside, blank, BuiltBeside, Made};
+ghost use Rattle.site.specs.Site.{shown, blank, BuiltBeside, Made};
 ghost use Rattle.site.specs.Values.{values};
 ghost use Rattle.site.specs.Sited.{Sited, JudgedOver, JudgesText};
 

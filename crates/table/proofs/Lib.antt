@@ -1,3 +1,2 @@
-pub mod Stated
 mod Scanning
 mod Named

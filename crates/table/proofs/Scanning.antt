@@ -11,7 +11,7 @@ use Rattle.theory.specs.Table.{first_fault}
 use Rattle.theory.specs.declared.refusal.Refusal.{Refusal}
 use Rattle.theory.proofs.FirstFault.{over, at_fault, at_end}
 use Rattle.theory.proofs.TableRefusal.{refused_differ, refused_empty, refused_long, refused_later}
-use Rattle.table.proofs.Stated.{not_zero}
+use Rattle.theory.proofs.Stated.{number_some}
 
 -- The scan of all n entries is the scan of those from i on.
 pub record Scanning (fault : ℕ → ℕ) (n i : ℕ) : Type 0 where
@@ -28,7 +28,7 @@ module _ (fault : ℕ → ℕ) (n : ℕ) where
   pub scan_ends : (i : ℕ) → Scanning fault n i → n ≤ i → success ≡ first_fault fault 0 n
   scan_ends i s l = sym (s.left ∙ at_end fault i n l)
 
-pub ruleset scan_laws = (scan_over, scan_found, scan_ends, not_zero)
+pub ruleset scan_laws = (scan_over, scan_found, scan_ends, number_some)
 
 -- ---- One scan after the other
 
@@ -36,7 +36,7 @@ module _ {r : Result (Unit {0}) Refusal} {wanted : Wanted} (other : Wanted) (e :
   pub first_stands : (found : Refusal) → r ≡ Err found → stated found ≡ or_else wanted other
   first_stands found q =
       let w : stated found ≡ wanted = sym (ap refusal_in q) ∙ e in
-      let n = ne_eqb wanted.number 0 (λ z. not_zero found.cause (ap (λ (v : Wanted). v.number) w ∙ z)) in
+      let n = ne_eqb wanted.number 0 (λ z. number_some found.cause (ap (λ (v : Wanted). v.number) w ∙ z)) in
       w ∙ sym (ap (λ (b : Bool). cond b other wanted) n)
 
   pub second_stands : (v : Unit {0}) → r ≡ Ok v → other ≡ or_else wanted other

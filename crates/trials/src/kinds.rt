@@ -2,74 +2,76 @@
 // records and the empty one are judged on the automaton that it made, a line each as in records.rt. What must be printed was worked out
 // from 01's rules; the states that they lead to stand at each table, and 1 is the literal empty word.
 
-use builder::Building;
+use columns::arcs::{Arcs, ArcsMut};
+use columns::states::StatesMut;
+use columns::table::{Table, TableMut};
+use columns::work::Work;
+use matcher::automaton::Automaton;
 
-fn judge(
-    states: usize,
-    accepting: &[u8; 5],
-    arcs: usize,
-    from: &[u16; 5],
-    letter: &[u8; 5],
-    to: &[u16; 5],
-    record: &[u8],
-) {
+fn judge(automaton: Automaton<'_>, record: &[u8]) {
     let mut current = [7u64; 1];
     let mut next = [7u64; 1];
-    super::records::show(matcher::judge(
-        states,
-        accepting,
-        arcs,
-        from,
-        letter,
-        to,
-        record,
-        &mut current,
-        &mut next,
-    ));
+    let mut work = Work {
+        current: &mut current,
+        next: &mut next,
+    };
+    super::records::show(matcher::judge(automaton, record, &mut work));
 }
 
-fn judged(kind: &[u8], left: &[u16], right: &[u16], first: &[u8], second: &[u8], third: &[u8]) {
-    let mut xkind = [0u8; 5];
-    let mut xleft = [0u16; 5];
-    let mut xright = [0u16; 5];
+fn judged(given: Table<'_>, records: &[&[u8]]) {
+    let mut kind = [0u8; 5];
+    let mut left = [0u16; 5];
+    let mut right = [0u16; 5];
     let mut expression = [0u16; 5];
     let mut accepting = [0u8; 5];
     let mut from = [0u16; 5];
     let mut letter = [0u8; 5];
     let mut to = [0u16; 5];
-    let building = builder::build(
-        kind,
-        left,
-        right,
-        &mut xkind,
-        &mut xleft,
-        &mut xright,
-        &mut expression,
-        &mut accepting,
-        &mut from,
-        &mut letter,
-        &mut to,
-    );
-    super::tables::show(building);
-    if let Building::Built {
-        states,
-        expressions: _,
-        arcs,
-    } = building
-    {
-        judge(states, &accepting, arcs, &from, &letter, &to, first);
-        judge(states, &accepting, arcs, &from, &letter, &to, second);
-        judge(states, &accepting, arcs, &from, &letter, &to, third);
-        judge(states, &accepting, arcs, &from, &letter, &to, b"");
+    let mut rows = TableMut {
+        kind: &mut kind,
+        left: &mut left,
+        right: &mut right,
+    };
+    let mut states = StatesMut {
+        expression: &mut expression,
+        accepting: &mut accepting,
+    };
+    let mut arcs = ArcsMut {
+        from: &mut from,
+        letter: &mut letter,
+        to: &mut to,
+    };
+    let built = builder::build(given, &mut rows, &mut states, &mut arcs);
+    super::tables::show(built);
+    if let Ok(counts) = built {
+        let arcs = Arcs {
+            from: &from,
+            letter: &letter,
+            to: &to,
+        };
+        let automaton = Automaton {
+            states: counts.states,
+            accepting: &accepting,
+            arc_count: counts.arcs,
+            arcs,
+        };
+        for record in records {
+            judge(automaton, record);
+        }
     }
 }
 
-fn words(kind: &[u8], left: &[u16], right: &[u16]) {
-    judged(kind, left, right, b"ab", b"ba", b"a");
+fn words<'a>(kind: &'a [u8], left: &'a [u16], right: &'a [u16]) {
+    judged(Table { kind, left, right }, &[b"ab", b"ba", b"a", b""]);
 }
 
-fn letters(l: u16) {
-    judged(&[2], &[l], &[0], &[1], &[255], &[0]);
+fn letters(letter: u16) {
+    let given = Table {
+        kind: &[2],
+        left: &[letter],
+        right: &[0],
+    };
+    judged(given, &[&[1], &[255], &[0], b""]);
 }
 
 pub(crate) fn all() {

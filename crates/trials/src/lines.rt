@@ -1,14 +1,12 @@
 // Lines of numbers on standard output.
 
-pub(crate) fn first(n: usize) {
-    io::print_decimal(1, n as u64);
-}
-
-pub(crate) fn next(n: usize) {
-    io::write_all(1, b" ");
-    io::print_decimal(1, n as u64);
-}
-
-pub(crate) fn end() {
+// The numbers, single-spaced.
+pub(crate) fn line(numbers: &[usize]) {
+    for i in 0..numbers.len() {
+        if 0 < i {
+            io::write_all(1, b" ");
+        }
+        io::print_decimal(1, numbers[i] as u64);
+    }
     io::write_all(1, b"\n");
 }

@@ -9,7 +9,9 @@ mod tables;
 mod texts;
 
 fn main() {
-    texts::all();
+    if texts::all().is_err() {
+        io::write_all(2, b"a text has no room\n");
+    }
     records::all();
     tables::all();
     kinds::all();

@@ -3,20 +3,19 @@
 
 ghost use Rattle.std.specs.Prelude.{◌≤◌};
 
-fn line(number: u8, verdict: usize, place: usize, live: usize) {
-    super::lines::first(number as usize);
-    super::lines::next(verdict);
-    super::lines::next(place);
-    super::lines::next(live);
-    super::lines::end();
-}
+use super::lines::line;
+use columns::arcs::Arcs;
+use columns::work::Work;
+use matcher::Verdict;
+use matcher::automaton::Automaton;
+use theory::refusal::Refusal;
 
-pub(crate) fn show(judgement: matcher::Judgement) {
-    match judgement {
-        matcher::Judgement::Refused { number } => line(number, 0, 0, 0),
-        matcher::Judgement::Accepted { live } => line(0, 1, 0, live),
-        matcher::Judgement::Unfinished { live } => line(0, 2, 0, live),
-        matcher::Judgement::Wrong { place } => line(0, 3, place, 0),
+pub(crate) fn show(answer: Result<Verdict, Refusal>) {
+    match answer {
+        Err(refusal) => line(&[refusal.cause.number() as usize, 0, 0, 0]),
+        Ok(Verdict::Accepted { live }) => line(&[0, 1, 0, live]),
+        Ok(Verdict::Unfinished { live }) => line(&[0, 2, 0, live]),
+        Ok(Verdict::Wrong { place }) => line(&[0, 3, place, 0]),
     }
 }
 
@@ -28,17 +27,22 @@ fn two_states(states: usize, flag: u8, arcs: usize, from: &[u16], l: u8, t: u16,
     let to = [t];
     let mut current = [7u64; 1];
     let mut next = [7u64; 1];
-    show(matcher::judge(
-        states,
-        &accepting,
-        arcs,
+    let columns = Arcs {
         from,
-        &letter,
-        &to,
-        record,
-        &mut current,
-        &mut next,
-    ));
+        letter: &letter,
+        to: &to,
+    };
+    let automaton = Automaton {
+        states,
+        accepting: &accepting,
+        arc_count: arcs,
+        arcs: columns,
+    };
+    let mut work = Work {
+        current: &mut current,
+        next: &mut next,
+    };
+    show(matcher::judge(automaton, record, &mut work));
 }
 
 // No arc; so many states, and so many words in the two work columns.
@@ -51,17 +55,22 @@ fn no_arc(states: usize, words: usize, more: usize)
     let to = [0u16; 1];
     let mut current = [7u64; 1100];
     let mut next = [7u64; 1100];
-    show(matcher::judge(
+    let columns = Arcs {
+        from: &from,
+        letter: &letter,
+        to: &to,
+    };
+    let automaton = Automaton {
         states,
-        &accepting,
-        0,
-        &from,
-        &letter,
-        &to,
-        b"",
-        &mut current[..words],
-        &mut next[..more],
-    ));
+        accepting: &accepting,
+        arc_count: 0,
+        arcs: columns,
+    };
+    let mut work = Work {
+        current: &mut current[..words],
+        next: &mut next[..more],
+    };
+    show(matcher::judge(automaton, b"", &mut work));
 }
 
 pub(crate) fn all() {

@@ -3,81 +3,62 @@
 
 ghost use Rattle.std.specs.Prelude.{◌≤◌};
 
-use builder::Building;
+use super::lines::line;
+use builder::Counts;
+use columns::arcs::ArcsMut;
+use columns::states::StatesMut;
+use columns::table::{Table, TableMut};
+use theory::refusal::Refusal;
 
-fn line(number: u8, place: usize, states: usize, expressions: usize, arcs: usize) {
-    super::lines::first(number as usize);
-    super::lines::next(place);
-    super::lines::next(states);
-    super::lines::next(expressions);
-    super::lines::next(arcs);
-    super::lines::end();
-}
-
-pub(crate) fn show(building: Building) {
-    match building {
-        Building::Refused { number, place } => line(number, place, 0, 0, 0),
-        Building::Built {
-            states,
-            expressions,
-            arcs,
-        } => line(0, 0, states, expressions, arcs),
+pub(crate) fn show(built: Result<Counts, Refusal>) {
+    match built {
+        Err(refusal) => line(&[refusal.cause.number() as usize, refusal.place, 0, 0, 0]),
+        Ok(counts) => line(&[0, 0, counts.states, counts.expressions, counts.arcs]),
     }
 }
 
 // Room for x expressions, s states with so many accepting flags, a arcs.
-fn lend(kind: &[u8], left: &[u16], right: &[u16], x: usize, s: usize, flags: usize, a: usize)
+fn lend(given: Table<'_>, x: usize, s: usize, flags: usize, a: usize)
     requires { (x ≤ 1024) × (s ≤ 512) × (flags ≤ 512) × (a ≤ 4096) }
 {
-    let mut xkind = [0u8; 1024];
-    let mut xleft = [0u16; 1024];
-    let mut xright = [0u16; 1024];
+    let mut kind = [0u8; 1024];
+    let mut left = [0u16; 1024];
+    let mut right = [0u16; 1024];
     let mut expression = [0u16; 512];
     let mut accepting = [0u8; 512];
     let mut from = [0u16; 4096];
     let mut letter = [0u8; 4096];
     let mut to = [0u16; 4096];
-    show(builder::build(
-        kind,
-        left,
-        right,
-        &mut xkind[..x],
-        &mut xleft[..x],
-        &mut xright[..x],
-        &mut expression[..s],
-        &mut accepting[..flags],
-        &mut from[..a],
-        &mut letter[..a],
-        &mut to[..a],
-    ));
+    let mut rows = TableMut {
+        kind: &mut kind[..x],
+        left: &mut left[..x],
+        right: &mut right[..x],
+    };
+    let mut states = StatesMut {
+        expression: &mut expression[..s],
+        accepting: &mut accepting[..flags],
+    };
+    let mut arcs = ArcsMut {
+        from: &mut from[..a],
+        letter: &mut letter[..a],
+        to: &mut to[..a],
+    };
+    show(builder::build(given, &mut rows, &mut states, &mut arcs));
 }
 
 // Exactly these rooms, and one less of each.
-fn exact(kind: &[u8], left: &[u16], right: &[u16], x: usize, s: usize, a: usize)
+fn exact(given: Table<'_>, x: usize, s: usize, a: usize)
     requires { (x ≤ 1024) × (s ≤ 512) × (a ≤ 4096) }
 {
-    lend(kind, left, right, x, s, s, a);
+    lend(given, x, s, s, a);
     if 0 < x {
-        lend(kind, left, right, x - 1, s, s, a);
+        lend(given, x - 1, s, s, a);
     }
     if 0 < s {
-        lend(kind, left, right, x, s - 1, s - 1, a);
+        lend(given, x, s - 1, s - 1, a);
     }
     if 0 < a {
-        lend(kind, left, right, x, s, s, a - 1);
-    }
-}
-
-// The entries that the reader made of a text.
-fn entries(kind: &[u8], left: &[u16], right: &[u16], n: usize, x: usize, s: usize, a: usize)
-    requires { (x ≤ 1024) × (s ≤ 512) × (a ≤ 4096) }
-{
-    if n <= kind.len() {
-        if n <= left.len() {
-            if n <= right.len() {
-                exact(&kind[..n], &left[..n], &right[..n], x, s, a);
-            }
-        }
+        lend(given, x, s, s, a - 1);
     }
 }
 
@@ -88,15 +69,20 @@ fn needs(text: &[u8], x: usize, s: usize, a: usize)
     let mut kind = [0u8; 512];
     let mut left = [0u16; 512];
     let mut right = [0u16; 512];
-    if let reader::Reading::Read { entries: n } = reader::read(
-        text, &mut kind, &mut left, &mut right,
-    ) {
-        entries(&kind, &left, &right, n, x, s, a);
+    let mut table = TableMut {
+        kind: &mut kind,
+        left: &mut left,
+        right: &mut right,
+    };
+    if let Ok(entries) = reader::read(text, &mut table) {
+        if entries <= 512 {
+            exact(table.view().first(entries), x, s, a);
+        }
     }
 }
 
-fn table(kind: &[u8], left: &[u16], right: &[u16]) {
-    lend(kind, left, right, 100, 100, 100, 100);
+fn table<'a>(kind: &'a [u8], left: &'a [u16], right: &'a [u16]) {
+    lend(Table { kind, left, right }, 100, 100, 100, 100);
 }
 
 fn over_512() {
@@ -109,7 +95,12 @@ fn over_512() {
 fn causes() {
     table(&[2], &[97, 0], &[0]);
     table(&[2], &[97], &[0, 0]);
-    lend(&[1], &[0], &[0], 2, 2, 1, 2);
+    let one = Table {
+        kind: &[1],
+        left: &[0],
+        right: &[0],
+    };
+    lend(one, 2, 2, 1, 2);
     table(&[], &[], &[]);
     over_512();
     table(&[7], &[0], &[0]);

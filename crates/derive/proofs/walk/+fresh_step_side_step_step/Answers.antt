@@ -118,15 +118,10 @@ pub step-fresh_step-requires : goal.step-fresh_step-requires
 step-fresh_step-requires t c =
     let k =
     two_sides c.requires.fitted.rows c.requires.row_lt_used.0 c.view-table.ensures c.row-w.ensures c.if-w-number.false c.number.ensures
-    c.left_side-a.ensures c.right_side-b.ensures in (
+    c.left_side-a.ensures c.right_side-b.ensures in
+    let s = stands_not k c.args.letter c.args.after c.view-table.ensures c.if-not-place_has.ensures in (
       omega (arith, right_less k),
-      (
-        c.requires.fitted,
-        (
-          (left_within k, right_within k),
-          right_place k c.args.letter c.args.after c.requires.row_lt_used.1 (stands_not k c.args.letter c.args.after c.view-table.ensures c.if-not-place_has.ensures),
-        ),
-      ),
+      (c.requires.fitted, ((left_within k, right_within k), right_place k c.args.letter c.args.after c.requires.row_lt_used.1 s)),
     )
 
 pub step-returns-then-not-place_has-clause-steps : goal.step-returns-then-not-place_has-clause-steps
@@ -141,10 +136,9 @@ pub step-side_step-requires : goal.step-side_step-requires
 step-side_step-requires t c =
     let k =
     two_sides c.requires.fitted.rows c.requires.row_lt_used.0 c.view-table.ensures c.row-w.ensures c.if-w-number.false c.number.ensures
-    c.left_side-a.ensures c.right_side-b.ensures in (
-      omega (arith, left_less k),
-      (c.requires.fitted, (left_within k, left_place k c.args.letter c.args.after c.requires.row_lt_used.1 (stands k c.args.letter c.args.after c.view-table.ensures c.if-not-place_has.ensures))),
-    )
+    c.left_side-a.ensures c.right_side-b.ensures in
+    let s = stands k c.args.letter c.args.after c.view-table.ensures c.if-not-place_has.ensures in
+    (omega (arith, left_less k), (c.requires.fitted, (left_within k, left_place k c.args.letter c.args.after c.requires.row_lt_used.1 s)))
 
 pub step-returns-in_err-member-clause-steps : goal.step-returns-in_err-member-clause-steps
 step-returns-in_err-member-clause-steps t c =

@@ -31,7 +31,9 @@ has-right_side-requires t c = rows_sound_to c.requires.rows c.requires.row_in
 
 pub has-side_has-requires-else-side_has : goal.has-side_has-requires-else-side_has
 has-side_has-requires-else-side_has t c =
-    let k = two_sides c.requires.rows c.requires.row_in refl c.row-w.ensures c.if-w-number.false c.number.ensures c.left_side.ensures c.right_side.ensures in (
+    let k =
+    two_sides c.requires.rows c.requires.row_in refl c.row-w.ensures c.if-w-number.false c.number.ensures c.left_side.ensures
+    c.right_side.ensures in (
       omega (arith, right_less k),
       record { count = c.requires.count; rows = c.requires.rows; side_in = right_within k; member_in = c.requires.member_in },
     )
@@ -39,7 +41,8 @@ has-side_has-requires-else-side_has t c =
 pub has-returns-else-side_has : goal.has-returns-else-side_has
 has-returns-else-side_has t c =
     right_tells
-    (two_sides c.requires.rows c.requires.row_in refl c.row-w.ensures c.if-w-number.false c.number.ensures c.left_side.ensures c.right_side.ensures) _ _
+    (two_sides c.requires.rows c.requires.row_in refl c.row-w.ensures c.if-w-number.false c.number.ensures c.left_side.ensures
+    c.right_side.ensures) _ _
     c.side_has-else-side_has.result c.if-side_has.ensures c.side_has-else-side_has.ensures
 
 -- ---- A side's list
