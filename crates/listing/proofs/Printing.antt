@@ -2,9 +2,9 @@
 use Prim.Native.Nat.{ℕ, ◌≤◌}
 use native.Mathlib.Omega.{arith}
 use mathlib.Core.Path.{◌≡◌, refl, sym, ap, ◌∙◌}
-use mathlib.Core.List.{List, [], ◌++◌, append_assoc}
+use mathlib.Core.List.{List, ◌++◌, append_assoc}
 use lib.ListN.{length, get_or}
-use Rattle.std.specs.Prelude.{Result, Ok, Err}
+use Rattle.std.specs.Prelude.{Err}
 use Rattle.theory.specs.Limit.{most_states}
 use Rattle.theory.specs.Refusal.{Refusal}
 use Rattle.theory.specs.Automaton.{states}
@@ -15,7 +15,6 @@ use Rattle.theory.proofs.Filled.{filled_well_formed}
 use Rattle.lines.specs.declared.failure.Failure.{Failure}
 use Rattle.lines.specs.declared.failure.Failure.TheVariants.{Read, Write}
 use Rattle.lines.specs.Input.{Input, Took}
-use Rattle.lines.specs.Output.{WroteOut}
 use Rattle.theory.specs.Rooms
 use Rattle.theory.specs.Report.{Report, withheld, needs}
 use Rattle.site.specs.Site.{Shown, site_refusal, holding, Made}
@@ -23,7 +22,7 @@ use Rattle.site.proofs.Fitting.{Fits, fitting}
 use Rattle.site.proofs.Making.{unless_none, unless_some}
 use Rattle.site.proofs.Judging.{BuiltFrom}
 use Rattle.site.proofs.Telling.{RefusedBy, unread, no_room, refused_by}
-use Rattle.listing.specs.Listing.{Narrow, arc_lines, state_lines, own_columns, printed, Lists, Prints, Answers, no_line}
+use Rattle.listing.specs.Listing.{Narrow, arc_lines, state_lines, own_columns, printed, Lists, Answers, no_line}
 use Rattle.listing.proofs.Listed.{listed}
 
 -- ---- A refusal
