@@ -2,9 +2,9 @@
 use Prim.Native.Nat.{ℕ, ◌≤◌}
 use native.Mathlib.Omega.{arith}
 use mathlib.Core.Path.{◌≡◌, refl, sym, ap, ◌∙◌}
-use mathlib.Core.List.{List, [], ◌++◌, append_assoc}
+use mathlib.Core.List.{List, ◌++◌, append_assoc}
 use lib.ListN.{length, get_or}
-use Rattle.std.specs.Prelude.{Result, Ok, Err}
+use Rattle.std.specs.Prelude.{Err}
 use Rattle.theory.specs.Limit.{most_states}
 use Rattle.theory.specs.Refusal.{Refusal}
 use Rattle.theory.specs.Automaton.{states}
@@ -15,7 +15,6 @@ use Rattle.theory.proofs.Filled.{filled_well_formed}
 use Rattle.lines.specs.declared.failure.Failure.{Failure}
 use Rattle.lines.specs.declared.failure.Failure.TheVariants.{Read, Write}
 use Rattle.lines.specs.Input.{Input, Took}
-use Rattle.lines.specs.Output.{WroteOut}
 use Rattle.theory.specs.Rooms
 use Rattle.theory.specs.Report.{Report, withheld, needs}
 use Rattle.site.specs.Site.{Shown, site_refusal, holding, Made}
@@ -23,7 +22,7 @@ use Rattle.site.proofs.Fitting.{Fits, fitting}
 use Rattle.site.proofs.Making.{unless_none, unless_some}
 use Rattle.site.proofs.Judging.{BuiltFrom}
 use Rattle.site.proofs.Telling.{RefusedBy, unread, no_room, refused_by}
-use Rattle.listing.specs.Listing.{Narrow, arc_lines, state_lines, own_columns, printed, Lists, Prints, Answers, no_line}
+use Rattle.listing.specs.Listing.{Narrow, arc_lines, state_lines, own_columns, printed, Lists, Answers, no_line}
 use Rattle.listing.proofs.Listed.{listed}
 
 -- ---- A refusal
@@ -93,13 +92,7 @@ lists_automaton {answer = answer} {s'} h b {before} p q = record {
       ∙ ap (λ (x : List ℕ). before ++ x) (listing_is b);
 }
 
--- ---- What is handed on to be written
-
-pub prints : {text : Text} {before held : List ℕ} (written : Result ℕ Failure) (left : List ℕ) → before ≡ [] → Lists text before held
-    → WroteOut held written left → Prints text written
-prints (Ok n) left e l w = record { bytes = l.bytes; printed = l.printed; all = w.0 ∙ ap length (l.put ∙ ap (λ (x : List ℕ). x ++ l.bytes) e) }
-prints (Err Write) left e l w = record { bytes = l.bytes; printed = l.printed; all = tt }
-prints (Err Read) left e l w = absurd w
+-- ---- Where no line is taken
 
 -- No line was taken where a read failed.
 pub none_taken : {input input' : Input} {column : List ℕ} (f : Failure) → Took input (Err f) input' column → Answers input (Err f) input'

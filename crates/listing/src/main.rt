@@ -9,7 +9,8 @@ ghost use Rattle.theory.specs.Limit.{longest_text};
 ghost use Rattle.columns.specs.Arcs.{read_arcs};
 ghost use Rattle.lines.specs.Input.{line_bytes, Whole};
 ghost use Rattle.lines.specs.Output.{WroteOut};
-ghost use Rattle.listing.specs.Listing.{arc_bytes, state_bytes, listing_bytes, Narrow, arc_lines, state_text, state_lines, Lists, Printed, Prints, Answers};
+ghost use Rattle.listing.specs.Listing.{arc_bytes, state_bytes, listing_bytes, Narrow, arc_lines, state_text, state_lines};
+ghost use Rattle.listing.specs.Listing.{Lists, Printed, Prints, Answers};
 
 use columns::arcs::{Arcs, ArcsMut};
 use lines::failure::Failure;
@@ -34,7 +35,8 @@ fn arc<const ROOM: usize>(output: &mut Output<ROOM>, from: u16, to: u16, letter:
 }
 
 fn arcs<const ROOM: usize>(output: &mut Output<ROOM>, count: usize, arcs: Arcs<'_>)
-    requires arc_bytes_in_bounds { (length output.old + count * arc_bytes ≤ ROOM) × (count ≤ length arcs.from.now) × (count ≤ length arcs.letter.now) × (count ≤ length arcs.to.now) }
+    requires arc_bytes_in_bounds { (length output.old + count * arc_bytes ≤ ROOM) × (count ≤ length arcs.from.now)
+        × (count ≤ length arcs.letter.now) × (count ≤ length arcs.to.now) }
     requires narrow { Narrow (read_arcs arcs) count }
     ensures put { output.new ≡ output.old ++ arc_lines (read_arcs arcs.entry) count }
     ensures upper_bound { length output.new ≤ length output.old + count * arc_bytes }
@@ -109,7 +111,10 @@ fn print(line: Option<Line>, column: &[u8]) -> Result<usize, Failure>
 }
 
 // The next line is taken, and answered.
-fn answer<R: Read, const SIZE: usize>(input: &mut Input<R, SIZE>, column: &mut [u8]) -> Result<usize, Failure>
+fn answer<R: Read, const SIZE: usize>(
+    input: &mut Input<R, SIZE>,
+    column: &mut [u8],
+) -> Result<usize, Failure>
     requires { length column.old ≡ longest_text + 1 }
     ensures { Answers input.old result input.new }
 {

@@ -61,8 +61,8 @@ comes : {input : Input} {size : ℕ} {held left : List ℕ} {input' : Input} {co
 comes {column = column} (Ended n) a = (take n column, a.1.holds.1)
 comes {column = column} Full a = (column ++ a.1.holds.0, a.1.holds.1)
 
-pub one_too_many : {input : Input} {size : ℕ} {totals : Totals} {held left : List ℕ} {input' : Input} {column held' : List ℕ} {r : Option Line} {line : Line}
-    → r ≡ Some line → Asks input size held (Ok r) input' column left → held' ≡ left ++ refusal_line (refusal lines_many 0)
+pub one_too_many : {input : Input} {size : ℕ} {totals : Totals} {held left : List ℕ} {input' : Input} {column held' : List ℕ} {r : Option Line}
+    {line : Line} → r ≡ Some line → Asks input size held (Ok r) input' column left → held' ≡ left ++ refusal_line (refusal lines_many 0)
     → Ends input size totals held (Ok tt) input' held'
 one_too_many {input} {size} {held = held} {left} {input'} {column} {line = line} e a p =
     let one = subst (λ (r : Option Line). Asks input size held (Ok r) input' column left) e a in
