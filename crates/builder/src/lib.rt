@@ -76,7 +76,8 @@ fn checked(even: bool, given: Table<'_>) -> Result<(), Refusal>
     table::check(given)
 }
 
-// 01: "sets all lent output and work columns to zero".
+// 01: "sets all lent output and work columns to zero". Inline, so that a program of whose columns nothing is read need not write them.
+#[inline(always)]
 pub fn clear(rows: &mut TableMut<'_>, states: &mut StatesMut<'_>, arcs: &mut ArcsMut<'_>)
     ensures same_rows { SameTable rows.old rows.new }
     ensures same_states { SameStates states.old states.new }

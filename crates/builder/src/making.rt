@@ -82,7 +82,7 @@ fn start(given: Table<'_>, rows: &mut Rows<'_>, states: &mut States<'_>) -> Resu
     rows.kind[0] = Kind::EmptyWord.number();
     rows.used = 1;
     let row = rows.take_over(given, given.kind.len() - 1)?;
-    let accepts = empty_word(rows.view(), row);
+    let accepts = empty_word(&rows.view(), row);
     states.add(row, accepts)?;
     Ok(())
 }
@@ -146,6 +146,6 @@ fn meet(
     if let Some(j) = states.find(row) {
         return arcs.add(i, a, j);
     }
-    let j = states.add(row, empty_word(rows.view(), row))?;
+    let j = states.add(row, empty_word(&rows.view(), row))?;
     arcs.add(i, a, j)
 }

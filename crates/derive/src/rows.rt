@@ -69,9 +69,9 @@ impl Rows<'_> {
 }
 
 // 01: "the answer for the empty word follows from an entry's children down to the leaves".
-pub fn empty_word(table: Table<'_>, row: usize) -> bool
-    requires { SoundTo (read_table table) row }
-    ensures { result ≡ empty_word (tree_at (read_table table.entry) row) }
+pub fn empty_word(table: &Table<'_>, row: usize) -> bool
+    requires { SoundTo (read_table table.now) row }
+    ensures { result ≡ empty_word (tree_at (read_table table.now) row) }
 {
     let w = table.row(row);
     let Some(kind) = Kind::of(w.kind) else {

@@ -31,9 +31,9 @@ pub struct Side {
 }
 
 #[tactic(auto, unfolding(crate::specs::Sides::left_side))]
-pub fn left_side(table: Table<'_>, row: usize) -> Option<Side>
-    requires { SoundTo (read_table table) row }
-    ensures { result ≡ left_side (read_table table.entry) row }
+pub fn left_side(table: &Table<'_>, row: usize) -> Option<Side>
+    requires { SoundTo (read_table table.now) row }
+    ensures { result ≡ left_side (read_table table.now) row }
 {
     let w = table.row(row);
     let child = w.left as usize;
@@ -51,9 +51,9 @@ pub fn left_side(table: Table<'_>, row: usize) -> Option<Side>
 }
 
 #[tactic(auto, unfolding(crate::specs::Sides::right_side))]
-pub fn right_side(table: Table<'_>, row: usize) -> Option<Side>
-    requires { SoundTo (read_table table) row }
-    ensures { result ≡ right_side (read_table table.entry) row }
+pub fn right_side(table: &Table<'_>, row: usize) -> Option<Side>
+    requires { SoundTo (read_table table.now) row }
+    ensures { result ≡ right_side (read_table table.now) row }
 {
     let w = table.row(row);
     let left = w.left as usize;
@@ -127,9 +127,9 @@ fn parted(w: Row, side: Side) -> Option<usize>
 
 // The member whose join with the side's other tree is the row p.
 #[tactic(auto, unfolding(crate::specs::Sides::lowered))]
-pub fn lower(table: Table<'_>, side: Side, p: usize) -> Option<usize>
-    requires { SoundTo (read_table table) p }
-    ensures { result ≡ lowered (read_table table.entry) side.other side.join p }
+pub fn lower(table: &Table<'_>, side: Side, p: usize) -> Option<usize>
+    requires { SoundTo (read_table table.now) p }
+    ensures { result ≡ lowered (read_table table.now) side.other side.join p }
 {
     if side.other == 0 {
         return Some(p);

@@ -16,9 +16,9 @@ use theory::kind::Kind;
 // Whether the row `member` is in the list of `row` by the letter: a letter's list is the literal empty word, any other row's is what its
 // two sides have.
 #[cycle(has_side_has)]
-fn has(table: Table<'_>, letter: u8, row: usize, member: usize) -> bool
-    requires { RowAmong (read_table table) row member }
-    ensures { RowHas (read_table table.entry) letter row member result }
+fn has(table: &Table<'_>, letter: u8, row: usize, member: usize) -> bool
+    requires { RowAmong (read_table table.now) row member }
+    ensures { RowHas (read_table table.now) letter row member result }
 {
     let w = table.row(row);
     if w.kind == Kind::Letter.number() {
@@ -30,9 +30,9 @@ fn has(table: Table<'_>, letter: u8, row: usize, member: usize) -> bool
 
 // A side's list is its child's, each member joined with the side's other tree.
 #[cycle(has_side_has)]
-fn side_has(table: Table<'_>, letter: u8, side: Option<Side>, member: usize) -> bool
-    requires { SideAmong (read_table table) side member }
-    ensures { SideHas (read_table table.entry) letter side member result }
+fn side_has(table: &Table<'_>, letter: u8, side: Option<Side>, member: usize) -> bool
+    requires { SideAmong (read_table table.now) side member }
+    ensures { SideHas (read_table table.now) letter side member result }
 {
     let Some(side) = side else {
         return false;
@@ -63,9 +63,9 @@ pub fn step(
     if w.kind == Kind::Letter.number() {
         return Ok(letter_step(w.left == letter as u16, after));
     }
-    let a = left_side(table, row);
-    let b = right_side(table, row);
-    if !place_has(table, letter, a, after) {
+    let a = left_side(&table, row);
+    let b = right_side(&table, row);
+    if !place_has(&table, letter, a, after) {
         return fresh_step(rows, letter, a, b, after);
     }
     if let Some(member) = side_step(rows, letter, a, after)? {
@@ -82,9 +82,9 @@ fn letter_step(met: bool, after: Option<usize>) -> Option<usize>
 }
 
 // The start of the list and each member of the left side are walked there.
-fn place_has(table: Table<'_>, letter: u8, side: Option<Side>, after: Option<usize>) -> bool
-    requires { PlaceAmong (read_table table) side after }
-    ensures { SideStands (read_table table.entry) letter side after result }
+fn place_has(table: &Table<'_>, letter: u8, side: Option<Side>, after: Option<usize>) -> bool
+    requires { PlaceAmong (read_table table.now) side after }
+    ensures { SideStands (read_table table.now) letter side after result }
 {
     let Some(row) = after else {
         return true;
@@ -111,7 +111,7 @@ fn side_step(
     let Some(side) = side else {
         return Ok(None);
     };
-    let inner = lower_place(rows.view(), side, after);
+    let inner = lower_place(&rows.view(), side, after);
     let Some(member) = step(rows, letter, side.child, inner)? else {
         return Ok(None);
     };
@@ -120,14 +120,15 @@ fn side_step(
 }
 
 // The place in the child's list that the join takes to the place `after`.
-fn lower_place(table: Table<'_>, side: Side, after: Option<usize>) -> Option<usize>
-    requires { PlaceWithin (read_table table) after }
-    ensures { result ≡ lowered_place (read_table table.entry) side.other side.join after }
+fn lower_place(table: &Table<'_>, side: Side, after: Option<usize>) -> Option<usize>
+    requires { PlaceWithin (read_table table.now) after }
+    ensures { result ≡ lowered_place (read_table table.now) side.other side.join after }
 {
     lower(table, side, after?)
 }
 
 // The next member of the right side that the left side does not have.
+#[inline(always)]
 #[cycle(fresh_step_side_step_step)]
 fn fresh_step(
     rows: &mut Rows<'_>,
@@ -146,7 +147,7 @@ fn fresh_step(
 {
     let mut at = after;
     while let Some(member) = side_step(rows, letter, b, at)? {
-        if !side_has(rows.view(), letter, a, member) {
+        if !side_has(&rows.view(), letter, a, member) {
             return Ok(Some(member));
         }
         at = Some(member);
