@@ -102,17 +102,18 @@ module _ {g : Table} {j : ℕ} {w : Row} {named : Children} (k : Read g j w name
         right_full {r = r} h e =
             full_for r e (short_then from_left (short_part (tree_at g d) (tree_at g j) (right_parts q) h.answer))
 
-        module _ {y : ℕ} (b : Took t₁ u room (tree_at g d) y t₂ v) where
+        -- The sign's row over what both children became, however it was made.
+        module _ {y : ℕ} (b : Took t₁ u room (tree_at g d) y t₂ v) {made : Row} (z : entry w.kind x y ≡ made) where
           left_still : x < v
           left_still = lt_of_lt_of_le a.there b.came.grown.more
 
-          row_is : entry w.kind x y ≡ entry (kind_of_sign (sign_read k q).0) x y
-          row_is = ap (λ (i : ℕ). entry i x y) (sign_read k q).3
+          row_is : made ≡ entry (kind_of_sign (sign_read k q).0) x y
+          row_is = sym z ∙ ap (λ (i : ℕ). entry i x y) (sign_read k q).3
 
-          pub pair_sound : Sound v (entry w.kind x y)
+          pub pair_sound : Sound v made
           pair_sound = of_sign (sign_read k q).0 x y left_still b.there row_is
 
-          pub takes_pair : {t₃ : Table} {n₃ : ℕ} {r : Result ℕ NoRoom} → Interns t₂ v room (row_tree (entry w.kind x y) (trees t₂ v)) r t₃ n₃
+          pub takes_pair : {t₃ : Table} {n₃ : ℕ} {r : Result ℕ NoRoom} → Interns t₂ v room (row_tree made (trees t₂ v)) r t₃ n₃
               → Takes t n room (tree_at g j) r t₃ n₃
           takes_pair h =
               let p = sign_read k q in

@@ -61,7 +61,7 @@ impl Rows<'_> {
     }
 }
 
-// A sign's row over the rows x and y.
+// A sign's row over the rows x and y. Whatever makes one makes it here.
 #[tactic(auto, unfolding(theory::specs::Table::kind_of_sign))]
 pub fn pair(sign: Sign, x: usize, y: usize) -> Row
     requires { (x ≤ most_expressions) × (y ≤ most_expressions) }

@@ -6,7 +6,8 @@ ghost use Rattle.theory.specs.Table.{tree_at};
 ghost use Rattle.columns.specs.Table.{read_table};
 ghost use Rattle.derive.specs.Rows.{rows_table, SameRows, Fitted, SoundTo, Takes};
 
-use columns::row::{Children, Row};
+use super::intern::pair;
+use columns::row::Row;
 use columns::table::Table;
 use theory::kind::{Kind, Sign};
 
@@ -46,24 +47,23 @@ impl Rows<'_> {
         ensures full { OnErr result (self.new.used ≡ self.new.room) }
     {
         let w = given.row(e);
-        match w.children() {
-            Children::Nothing => self.intern(w),
-            Children::One { child } => {
-                let x = self.take_over(given, child)?;
+        let Some(kind) = Kind::of(w.kind) else {
+            return self.intern(w);
+        };
+        match kind {
+            Kind::Sign(sign) => {
+                let x = self.take_over(given, w.left as usize)?;
+                let y = self.take_over(given, w.right as usize)?;
+                self.intern(pair(sign, x, y))
+            }
+            Kind::Star => {
+                let x = self.take_over(given, w.left as usize)?;
                 self.intern(Row {
                     left: x as u16,
                     ..w
                 })
             }
-            Children::Two { left, right } => {
-                let x = self.take_over(given, left)?;
-                let y = self.take_over(given, right)?;
-                self.intern(Row {
-                    left: x as u16,
-                    right: y as u16,
-                    ..w
-                })
-            }
+            _ => self.intern(w),
         }
     }
 }

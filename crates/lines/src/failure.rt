@@ -12,6 +12,7 @@ pub enum Failure {
 
 impl Failure {
     // The programs set no exit status: a read or a write that fails is told on standard error.
+    #[cold]
     pub fn tell(self) -> Result<usize, Failure>
         ensures { Wrote (told_length self) result }
     {
