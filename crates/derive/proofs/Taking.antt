@@ -8,7 +8,7 @@ use mathlib.Core.List.Memᴰ
 use mathlib.Core.List.{Memᴰ}
 use Rattle.theory.specs.Expression.{Expression, pair, star, parts}
 use Rattle.theory.specs.Distinct.{Within}
-use Rattle.theory.specs.Table.{Table, Row, entry, Sound, of_sign, of_star, kind_of_sign, trees, tree_at, row_tree}
+use Rattle.theory.specs.Table.{Table, Row, entry, Sound, of_star, kind_of_sign, trees, tree_at, row_tree}
 use Rattle.theory.proofs.Pair.{pair_left, pair_right}
 use Rattle.theory.proofs.Trees.{trees_below}
 use Rattle.theory.proofs.Bounds.Parts.{part_whole, part_inner}
@@ -109,9 +109,6 @@ module _ {g : Table} {j : ℕ} {w : Row} {named : Children} (k : Read g j w name
 
           row_is : made ≡ entry (kind_of_sign (sign_read k q).0) x y
           row_is = sym z ∙ ap (λ (i : ℕ). entry i x y) (sign_read k q).3
-
-          pub pair_sound : Sound v made
-          pair_sound = of_sign (sign_read k q).0 x y left_still b.there row_is
 
           pub takes_pair : {t₃ : Table} {n₃ : ℕ} {r : Result ℕ NoRoom} → Interns t₂ v room (row_tree made (trees t₂ v)) r t₃ n₃
               → Takes t n room (tree_at g j) r t₃ n₃

@@ -1,9 +1,10 @@
 -- A row of an unknown kind and a leaf's row are interned, a star's after its child's tree, a sign's after both.
 use Rattle.std.proofs.Common.{refl, ◌∙◌, arith}
+use Rattle.theory.specs.Table.{of_sign}
 use Rattle.derive.proofs.Coming.{answered_at, fitted_then}
 use Rattle.derive.proofs.Growing.{sound_to_less}
 use Rattle.derive.proofs.Reading.{reads_unknown, reads_star, reads_sign, reads_leaf, sign_with, leaf_read, star_read, sign_read}
-use Rattle.derive.proofs.Taking.{takes_leaf, star_sound, takes_star, star_full, left_full, right_full, pair_sound, takes_pair}
+use Rattle.derive.proofs.Taking.{takes_leaf, star_sound, takes_star, star_full, left_full, right_full, takes_pair}
 use Rattle.derive.proofs.rows.Rows.+take_over.Goals as goal
 
 -- ---- An unknown kind, which no sound row has
@@ -90,10 +91,9 @@ returns-in_err-y-in-Sign-clause-takes t c =
 pub intern-requires-in-Sign-clause-sound : goal.intern-requires-in-Sign-clause-sound
 intern-requires-in-Sign-clause-sound t c =
     let b = answered_at c.take_over.ensures.same.room c.in_ok-y-in-Sign.ensures.takes in
-    pair_sound
-    (reads_sign c.row-w.result c.requires.sound_to c.row-w.ensures c.in-Some.ensures c.in-Sign.is) refl
-    c.in_ok-x-in-Sign.ensures.takes.answer b.answer
-    (sign_with c.row-w.result c.requires.sound_to c.row-w.ensures c.in-Some.ensures c.in-Sign.is c.pair.ensures)
+    let before = c.in_ok-x-in-Sign.ensures.takes.answer.there in
+    let more = b.answer.came.grown.more in
+    of_sign _ _ _ (omega (arith, before, more, b.answer.there)) (omega (arith, before, more, b.answer.there)) c.pair.ensures
 
 pub returns-in_ok-y-in-Sign-clause-takes : goal.returns-in_ok-y-in-Sign-clause-takes
 returns-in_ok-y-in-Sign-clause-takes t c =
