@@ -60,7 +60,7 @@ pub record FourSums (texts : List Text) (t : Totals) : Type 0 where
   pub powers : t.powers ≡ sum (λ x. if_small x (2 ^ (report x).letters)) texts
   pub few : t.few ≡ sum (λ x. if_small x (report x).states) texts
 
--- The totals in a run: nothing at first, and after each text those that `totals::with` makes of what `site::automaton` answered.
+-- The totals in a run: nothing at first, and after each text those that `Totals::with` makes of what `site::automaton` answered.
 pub data Run : List Text → Totals → Type 0 where
   none : Run [] (record { built = 0; states = 0; powers = 0; few = 0 })
   one_more : {texts : List Text} {t : Totals} {text : Text} {s s' : Shown} (site : Result Site Refused) → Run texts t → InRooms s
