@@ -40,7 +40,7 @@ states-requires g c =
     let few = few_states b in
     let arcs = few_arcs b in (
       search rules,
-      (omega (arith, c.arcs.ensures.upper_bound, c.requires, few, arcs), omega (arith, c.automaton.auto.accepting, few), few),
+      (omega (arith, c.arcs.ensures.upper_bound, c.requires, few, arcs), omega (arith, c.automaton.auto.accepting, few), omega (arith, few)),
     )
 
 pub returns-in-Err : goal.returns-in-Err
@@ -49,4 +49,4 @@ returns-in-Err g c = lists_refusal c.in-Err.ensures.made c.refused.ensures.put
 pub returns-in-Ok : goal.returns-in-Ok
 returns-in-Ok g c =
     let put = c.arcs.ensures.put ∙ ap (λ (a : ArcColumns). c.args.output.now ++ arc_lines a c.in-Ok.site.arcs) c.view.ensures in
-    lists_automaton c.in-Ok.ensures.made (built_from c.in-Ok.ensures.made refl) put c.states.ensures.put
+    lists_automaton c.in-Ok.ensures.made (built_from c.in-Ok.ensures.made refl) put c.states.ensures.put (omega arith)
