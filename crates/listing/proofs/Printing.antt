@@ -82,12 +82,12 @@ module _ {text : Text} {q : Reading} {answer : Report} {s' : Shown} (b : BuiltFr
 
 pub lists_automaton : {text : Text} {answer : Report} {s' : Shown} (h : Made text own_columns answer s')
     → BuiltFrom text h.reading own_columns answer s' → {before between after : List ℕ} → between ≡ before ++ arc_lines s'.arcs answer.arcs
-    → after ≡ between ++ state_lines s'.accepting answer.states → Lists text before after
-lists_automaton {answer = answer} {s'} h b {before} p q = record {
+    → {n : ℕ} → after ≡ between ++ state_lines s'.accepting n → n ≡ answer.states → Lists text before after
+lists_automaton {answer = answer} {s'} h b {before} {between} p q e = record {
   bytes = listing b.read_as.expression;
   printed = record { reading = h.reading; due = h.due; is = printed_is b };
   put =
-      q ∙ ap (λ (x : List ℕ). x ++ state_lines s'.accepting answer.states) p
+      q ∙ ap (λ (m : ℕ). between ++ state_lines s'.accepting m) e ∙ ap (λ (x : List ℕ). x ++ state_lines s'.accepting answer.states) p
       ∙ append_assoc before (arc_lines s'.arcs answer.arcs) (state_lines s'.accepting answer.states)
       ∙ ap (λ (x : List ℕ). before ++ x) (listing_is b);
 }

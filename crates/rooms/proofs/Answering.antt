@@ -1,10 +1,11 @@
--- A turn of the report: a line that was taken, and its answer.
+-- A turn of the report: a line that was taken, and its answer, or the end of the input.
 use Prim.Native.Nat.{ℕ, ◌+◌}
 use native.Mathlib.Omega.{arith}
 use mathlib.Core.Path.{◌≡◌, sym, ap, ◌∙◌, subst}
-use mathlib.Core.List.{List, ◌++◌}
+use mathlib.Core.List.Memᴰ
+use mathlib.Core.List.{List, [], ◌++◌}
 use lib.ListN.{length, take, length-append}
-use Rattle.std.specs.Prelude.{Option, Some, Ok}
+use Rattle.std.specs.Prelude.{Option, None, Some, Ok}
 use Rattle.theory.specs.Limit.{longest_text}
 use Rattle.theory.specs.Refusal.{refusal, lines_many}
 use Rattle.theory.specs.Grammar.{Text}
@@ -12,8 +13,8 @@ use Rattle.theory.specs.Report.{Totals, report}
 use Rattle.theory.specs.Lines.{refusal_line, report_line}
 use Rattle.lines.specs.declared.input.Line.{Line}
 use Rattle.lines.specs.declared.input.Line.TheVariants.{Ended, Full}
-use Rattle.lines.specs.Input.{Input, Comes, line_bytes}
-use Rattle.lines.specs.Turn.{Asks}
+use Rattle.lines.specs.Input.{Input, Unbroken, Comes, line_bytes}
+use Rattle.lines.specs.Turn.{Left, Asks}
 use Rattle.site.specs.Totals.{with_report}
 use Rattle.site.specs.declared.totals.Totals as declared
 use Rattle.site.proofs.Reporting.{reports_long}
@@ -53,6 +54,16 @@ module _ {input : Input} {size : ℕ} {totals : Totals} {held left : List ℕ} {
   turned_line {line = line} e a t d =
       turned line (subst (λ (r : Option Line). Asks input size held (Ok r) input' column left) e a)
       (subst (λ (x : List ℕ). Answered x totals left totals' held') (t ∙ ap (λ (r : Option Line). line_bytes r column) e) d)
+
+-- At the end of the input nothing is held.
+pub turned_end : {input : Input} {size : ℕ} {totals : Totals} {held left : List ℕ} {input' : Input} {column held' : List ℕ} {r : Option Line}
+    → r ≡ None → Asks input size held (Ok r) input' column left → (left ≡ [] → held' ≡ []) → Turned input size totals held (Ok None) input' held'
+turned_end {input} {size} {held = held} {left} {input'} {column} e a none =
+    let asked = subst (λ (r : Option Line). Asks input size held (Ok r) input' column left) e a in
+    let nothing = asked.0.shown (subst Unbroken (sym asked.1.holds.0) Memᴰ.not-nil) in
+    record {
+      turns = (asked.1.holds.0, asked.1.holds.1, subst (Left input size held) nothing asked.0, none nothing);
+    }
 
 -- ---- A line too many
 

@@ -4,7 +4,7 @@
 
 pub mod totals;
 
-ghost use Rattle.std.specs.Prelude.{◌≡◌, length, get_or, eqb};
+ghost use Rattle.std.specs.Prelude.{◌≡◌, length, get_or, eqb, MatchResult};
 ghost use Rattle.theory.specs.Kind as numbers;
 ghost use Rattle.theory.specs.Below.{count_below};
 ghost use Rattle.theory.specs.Record.{LongEnough};
@@ -64,9 +64,9 @@ pub fn automaton(text: &[u8], accepting: &mut [u8], arcs: &mut ArcsMut<'_>) -> R
     };
     let entries = match reader::read(text, &mut table) {
         Ok(entries) => entries,
-        Err(refusal) => {
+        Err(unread) => {
             clear(accepting, arcs);
-            return Err(refusal);
+            return Err(unread);
         }
     };
     let read = table.view().first(entries);
@@ -162,8 +162,26 @@ pub fn judge<'a>(
         arcs: arcs.view(),
     };
     let answer = matcher::judge(automaton, record, work);
-    if answer.is_err() {
-        clear(accepting, arcs);
+    settle(answer, accepting, arcs)
+}
+
+// The matcher's answer, and nothing lent where it is a refusal.
+fn settle(
+    answer: Result<Verdict, Refusal>,
+    accepting: &mut [u8],
+    arcs: &mut ArcsMut<'_>,
+) -> Result<Verdict, Refusal>
+    ensures same { SameArcs arcs.old arcs.new }
+    ensures answers { result ≡ answer }
+    ensures leaves { MatchResult result
+        (λ v. shown accepting.new (lent_arcs arcs.new) ≡ shown accepting.old (lent_arcs arcs.old))
+        (λ r. shown accepting.new (lent_arcs arcs.new) ≡ blank (shown accepting.old (lent_arcs arcs.old))) }
+{
+    match answer {
+        Ok(verdict) => Ok(verdict),
+        Err(refusal) => {
+            clear(accepting, arcs);
+            Err(refusal)
+        }
     }
-    answer
 }

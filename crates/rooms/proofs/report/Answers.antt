@@ -9,7 +9,7 @@ loop-init g c = going_none c.none-totals.ensures c.requires.2
 pub answer_next-requires : goal.answer_next-requires
 answer_next-requires g c = (
   search rules,
-  (search rules, ((c.loop.auto.column ∙ c.requires.0, c.requires.1), fits_still c.loop.invariant c.loop-test.true)),
+  (search rules, ((c.loop.auto.column ∙ c.requires.0, c.requires.1), fits_still c.loop.invariant (omega (arith, c.loop-test.true)))),
 )
 
 pub returns-in_default : goal.returns-in_default
