@@ -35,7 +35,7 @@ pub enum Line {
     Full,
 }
 
-// Of a source that nothing says how to read: none is read yet.
+// Without `R: Read`: what makes an input cannot read.
 impl<R, const SIZE: usize> Input<R, SIZE> {
     pub fn new(source: R) -> Self
         ensures { Starts result }
