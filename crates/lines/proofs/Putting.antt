@@ -41,6 +41,11 @@ module _ (before : List ℕ) (n after : ℕ) {digits : List ℕ} (d : digits ≡
 pub number_short : (n after : ℕ) → n < 2 ^ 64 → length (number_and n after) ≤ number_room
 number_short n after l = let d = decimal_short n 19 (omega arith) in let m = length-append (decimal n) (after ∷ []) in omega arith
 
+-- So it fits where there is room for the longest.
+pub number_fits : (before : List ℕ) (n after : ℕ) {room : ℕ} → n < 2 ^ 64 → length before + number_room ≤ room
+    → length before + length (number_and n after) ≤ room
+number_fits before n after l r = let a = number_short n after l in omega arith
+
 pub number_long : (before : List ℕ) (n after : ℕ) {whole : List ℕ} → n < 2 ^ 64 → whole ≡ before ++ number_and n after
     → length whole ≤ length before + number_room
 number_long before n after l e = let a = number_short n after l in let c = put_length before (number_and n after) e in omega arith

@@ -80,5 +80,5 @@ module _ (input : Input) (bytes rest : List ℕ) (u : Unbroken bytes) (stands : 
     settled (Ok (Some Full)) l h =
         let (v, t) = h.holds in
         absurd (v (newline_within bytes (rest ++ t.came) column input'.untaken l (sym (with_more t.came) ∙ t.all)))
-    settled (Err Read) l h = absurd (broken h.holds)
+    settled (Err Read) l h = absurd (broken h.holds.0)
     settled (Err Write) l h = absurd h.holds

@@ -174,7 +174,7 @@ module _ {column₀ column : List ℕ} {input₀ input : Input} {n : ℕ} (s : S
       }
 
   pub line_failed : (input' : Input) (f : Failure) → Nexts input (Err f) input' → Took input₀ (Err f) input' column
-  line_failed input' Read e = record { holds = unbroken_before s.taken s.unbroken (none_unbroken e.0) }
+  line_failed input' Read e = record { holds = (unbroken_before s.taken s.unbroken (none_unbroken e.0), e.1) }
   line_failed input' Write e = absurd e
 
 -- ---- The rest of a line
@@ -206,9 +206,9 @@ module _ {input₀ input : Input} {turns : ℕ} (s : Passing input₀ input turn
   rest_last e = (s.bytes, inr (s.unbroken, all_there s.taken e.0, e.1))
 
   pub rest_failed : (input' : Input) (f : Failure) → Nexts input (Err f) input' → Passes input₀ (Err f) input'
-  rest_failed input' Read e = unbroken_before s.taken s.unbroken (none_unbroken e.0)
+  rest_failed input' Read e = (unbroken_before s.taken s.unbroken (none_unbroken e.0), e.1)
   rest_failed input' Write e = absurd e
 
   -- What was untaken is not longer than the turns, so that all of it is passed over by then.
-  pub rest_endless : length input₀.untaken ≤ turns → Passes input₀ (Err Read) input
-  rest_endless l = unbroken_all s.taken s.unbroken (let k = s.counted in omega arith)
+  pub rest_endless : length input₀.untaken ≤ turns → (input' : Input) → input'.untaken ≡ [] → Passes input₀ (Err Read) input'
+  rest_endless l input' e = (unbroken_all s.taken s.unbroken (let k = s.counted in omega arith), e)

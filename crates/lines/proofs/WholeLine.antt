@@ -33,5 +33,5 @@ module _ {input between : Input} {line : Option Line} {column : List ℕ} (e : l
       subst (λ (r : Option Line). TookWhole input (Ok r) end column) (sym e) (record { holds = (p.0, whole_of l full.0 full.1 p.1) })
 
   pub without_rest : {end : Input} (f : Failure) → Passes between (Err f) end → TookWhole input (Err f) end column
-  without_rest Read p = record { holds = unbroken_before full.1 full.0 p }
+  without_rest Read p = record { holds = (unbroken_before full.1 full.0 p.0, p.1) }
   without_rest Write p = absurd p

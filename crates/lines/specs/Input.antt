@@ -64,12 +64,13 @@ ToEnd input bytes input' = Unbroken bytes × ((came : List ℕ) × (input.untake
 abbrev pub Comes : Input → List ℕ → Input → Type 0
 Comes input bytes input' = ToNewline input bytes input' ⊎ ((0 < length bytes) × ToEnd input bytes input')
 
--- A line as it is stored in the column, where `Over` is said of one that fills it. A read fails only where no newline is left in the block.
+-- A line as it is stored in the column, where `Over` is said of one that fills it. A read fails only where no newline is left in the block, and
+-- then nothing is untaken: what was taken is not taken once more.
 abbrev pub Holds : (Input → Type 0) → Input → Result (Option Line) Failure → Input → List ℕ → Type 0
 Holds Over input (Ok None) input' column = (input.untaken ≡ []) × (input'.untaken ≡ [])
 Holds Over input (Ok (Some (Ended n))) input' column = (n < length column) × Comes input (take n column) input'
 Holds Over input (Ok (Some Full)) input' column = Over input'
-Holds Over input (Err Read) input' column = Unbroken input.untaken
+Holds Over input (Err Read) input' column = Unbroken input.untaken × (input'.untaken ≡ [])
 Holds Over input (Err Write) input' column = ⊥
 
 -- The answer where the input ends after n bytes of a line.
@@ -103,8 +104,8 @@ pub record Whole (most : ℕ) (line : Option Line) (column : List ℕ) : Type 0 
   pub room : length column ≡ most + 1
   pub within : Within most line
 
--- The rest of a line is passed over, with its newline. A read fails only where no newline is left in the block.
+-- The rest of a line is passed over, with its newline. A read fails only where no newline is left in the block, and then nothing is untaken.
 abbrev pub Passes : Input → Result Unit Failure → Input → Type 0
 Passes input (Ok _) input' = (bytes : List ℕ) × (ToNewline input bytes input' ⊎ ToEnd input bytes input')
-Passes input (Err Read) input' = Unbroken input.untaken
+Passes input (Err Read) input' = Unbroken input.untaken × (input'.untaken ≡ [])
 Passes input (Err Write) input' = ⊥

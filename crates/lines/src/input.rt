@@ -35,7 +35,8 @@ pub enum Line {
     Full,
 }
 
-impl<R: Read, const SIZE: usize> Input<R, SIZE> {
+// Without `R: Read`: what makes an input cannot read.
+impl<R, const SIZE: usize> Input<R, SIZE> {
     pub fn new(source: R) -> Self
         ensures { Starts result }
     {
@@ -46,7 +47,9 @@ impl<R: Read, const SIZE: usize> Input<R, SIZE> {
             end: 0,
         }
     }
+}
 
+impl<R: Read, const SIZE: usize> Input<R, SIZE> {
     // Whether the next line needs a read: no newline stands among the bytes that are not taken yet.
     #[tactic(auto, using(crate::proofs::Waiting::waits_is))]
     pub fn waits(&self) -> bool
@@ -101,6 +104,8 @@ impl<R: Read, const SIZE: usize> Input<R, SIZE> {
                 return Ok(());
             }
         }
+        // As after a read that failed, nothing is left to be taken.
+        self.at = self.end;
         Err(Failure::Read)
     }
 

@@ -96,5 +96,5 @@ lists_automaton {answer = answer} {s'} h b {before} {between} p q e = record {
 
 -- No line was taken where a read failed.
 pub none_taken : {input input' : Input} {column : List ℕ} (f : Failure) → Took input (Err f) input' column → Answers input (Err f) input'
-none_taken Read t = no_line t.holds
+none_taken Read t = no_line t.holds.0 t.holds.1
 none_taken Write t = absurd t.holds

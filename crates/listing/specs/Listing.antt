@@ -77,8 +77,8 @@ pub record Prints (text : Text) (written : Result ℕ Failure) : Type 0 where
   pub printed : Printed text bytes
   pub all : Wrote (length bytes) written
 
--- What `answer` owes: the next line was taken, and its answer handed on; or a read of it failed.
+-- What `answer` owes: the next line was taken, and its answer handed on; or a read of it failed, and nothing is untaken.
 pub data Answers (input : Input) : Result ℕ Failure → Input → Type 0 where
   of_line : {line : Option Line} {input' : Input} {column : List ℕ} {written : Result ℕ Failure} → length column ≡ longest_text + 1
       → Took input (Ok line) input' column → Prints (line_bytes line column) written → Answers input written input'
-  no_line : {input' : Input} → Unbroken input.untaken → Answers input (Err Read) input'
+  no_line : {input' : Input} → Unbroken input.untaken → input'.untaken ≡ [] → Answers input (Err Read) input'

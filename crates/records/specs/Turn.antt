@@ -15,7 +15,8 @@ pub record Answers (text : Text) (input : Input) (size : ℕ) (held : List ℕ) 
   pub took : TookWhole input (Ok (Some line)) input' column
   pub answered : Answered text line column left held'
 
--- Where the input ends or a read fails, nothing is left to be written. A write fails only where one is due, and then no line is taken.
+-- Where the input ends or a read fails, nothing is untaken and nothing is left to be written. A write fails only where one is due, and then no
+-- line is taken.
 abbrev pub Turns : Text → Input → (size : ℕ) → List ℕ → Result (Option Line) Failure → Input → List ℕ → List ℕ → Type 0
 Turns text input size held (Ok (Some line)) input' column held' = Answers text input size held line input' column held'
 Turns text input size held (Ok None) input' column held' = TookWhole input (Ok None) input' column × Left input size held [] × (held' ≡ [])

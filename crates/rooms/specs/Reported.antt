@@ -18,7 +18,8 @@ pub data Ending (input : Input) (totals : Totals) (left : List ℕ) (input' : In
 -- What `end` owes.
 abbrev pub Ends : Input → (size : ℕ) → Totals → List ℕ → Result Unit Failure → Input → List ℕ → Type 0
 Ends input size totals held (Ok _) input' held' = (left : List ℕ) × Left input size held left × Ending input totals left input' held'
-Ends input size totals held (Err Read) input' held' = Unbroken input.untaken × Left input size held [] × (held' ≡ [])
+Ends input size totals held (Err Read) input' held' =
+    Unbroken input.untaken × (input'.untaken ≡ []) × Left input size held [] × (held' ≡ [])
 Ends input size totals held (Err Write) input' held' = Due input size held × (input' ≡ input) × (held' ≡ held)
 
 -- A list of lines that were taken one after the other, till nothing was left in the block or one more than 100,000: what is held ends with the last

@@ -26,11 +26,13 @@ pub record Answers (input : Input) (size : ℕ) (totals : Totals) (held : List �
   pub leaves : Left input size held left
   pub answered : Answered text totals left totals' held'
 
--- Where the input ends or a read fails, nothing is left to be written. A write fails only where one is due, and then no line is taken.
+-- Where the input ends or a read fails, nothing is untaken and nothing is left to be written. A write fails only where one is due, and then no
+-- line is taken.
 abbrev pub Turns : Input → (size : ℕ) → Totals → List ℕ → Result (Option declared.Totals) Failure → Input → List ℕ → Type 0
 Turns input size totals held (Ok (Some totals')) input' held' = (text : Text) × Answers input size totals held text totals' input' held'
 Turns input size totals held (Ok None) input' held' = (input.untaken ≡ []) × (input'.untaken ≡ []) × Left input size held [] × (held' ≡ [])
-Turns input size totals held (Err Read) input' held' = Unbroken input.untaken × Left input size held [] × (held' ≡ [])
+Turns input size totals held (Err Read) input' held' =
+    Unbroken input.untaken × (input'.untaken ≡ []) × Left input size held [] × (held' ≡ [])
 Turns input size totals held (Err Write) input' held' = Due input size held × (input' ≡ input) × (held' ≡ held)
 
 -- What `answer_next` owes.

@@ -1,8 +1,8 @@
 -- `rest` passes over the bytes up to a newline.
-use Rattle.std.proofs.Common.{length, ◌≤◌, subst, arith, rules}
+use Rattle.std.proofs.Common.{length, ◌≤◌, refl, subst, arith, rules}
 use Rattle.std.proofs.lemmas.Result.{err_from_is_err_and}
-use Rattle.lines.specs.Input.{Input}
-use Rattle.lines.proofs.Taking.{next_as, passing_none, passing_byte, rest_ended, rest_last, rest_failed, rest_endless, untaken_short}
+use Rattle.lines.specs.Input.{Input, input_of}
+use Rattle.lines.proofs.Taking.{next_as, passing_none, passing_byte, rest_ended, rest_last, rest_failed, rest_endless, untaken_short, used_up}
 use Rattle.lines.proofs.input.Input.rest.Goals as goal
 
 pub loop-init : goal.loop-init
@@ -28,4 +28,4 @@ pub returns : goal.returns
 returns g c =
     let block = c.self.inside.block in
     let short = subst (λ (i : Input). length i.untaken ≤ c.self.inside.end) c.self.view_is (untaken_short block c.self.inside.at (search rules)) in
-    rest_endless c.loop.invariant (omega (arith, short, c.self.ranges, c.loop-test.false))
+    rest_endless c.loop.invariant (omega (arith, short, c.self.ranges, c.loop-test.false)) (input_of c.self-2.inside.block c.self-2.inside.end c.self-2.inside.end) (used_up c.self-2.inside.block refl)

@@ -8,10 +8,8 @@ pub loop-number-init : goal.loop-number-init
 loop-number-init g c = spaced_none _ _
 
 pub number-requires : goal.number-requires
-number-requires g c = (
-  search rules,
-  spaced_fits c.loop-number.invariant _ _ (c.type_inv.numbers c.loop-number.number-index).fits c.loop-number.auto.number-index-end c.requires,
-)
+number-requires g c =
+    (search rules, spaced_fits c.loop-number.invariant _ _ (search rules) c.loop-number.auto.number-index-end c.requires)
 
 pub loop-number-preserved : goal.loop-number-preserved
 loop-number-preserved g c =
