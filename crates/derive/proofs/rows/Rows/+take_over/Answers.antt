@@ -24,7 +24,7 @@ intern-requires-in_default-kind t c =
     record {
       fitted = c.requires.fitted;
       sound = leaf_read (reads_leaf c.row-w.result c.requires.sound_to c.row-w.ensures c.in-Some.ensures c.in_default-kind.not-Sign
-          c.in_default-kind.not-Star) refl _
+          c.in_default-kind.not-Star) refl _;
     }
 
 pub returns-in_default-kind : goal.returns-in_default-kind
@@ -33,7 +33,7 @@ returns-in_default-kind t c =
       same = c.intern-in_default-kind.ensures.same;
       takes = takes_leaf (reads_leaf c.row-w.result c.requires.sound_to c.row-w.ensures c.in-Some.ensures c.in_default-kind.not-Sign
           c.in_default-kind.not-Star) refl c.requires.fitted c.intern-in_default-kind.ensures.interns;
-      full = c.intern-in_default-kind.ensures.full
+      full = c.intern-in_default-kind.ensures.full;
     }
 
 -- ---- A star
