@@ -8,7 +8,7 @@ use mathlib.Core.Logic.{◌⊎◌, inl, inr, ⊎_elim}
 use mathlib.Core.List.Memᴰ
 use mathlib.Core.List.{List, [], ◌∷◌, ◌++◌, append-nil, append_assoc, Memᴰ}
 use lib.ListN.{length, get_or, take, set, length-set, length-append}
-use lib.Seq.{slice, slice_empty, slice-cons, length-slice, length-take-le, take-suc, take-suc-set}
+use lib.Seq.{slice, slice_empty, slice-cons, length-slice, length-take-le, take_all, take-suc, take-suc-set}
 use lib.Dec.{eqb}
 use borrow.Author.Tests.{eqb-true, eqb-false}
 use Rattle.std.specs.Prelude.{Option, None, Some, Ok, Err}
@@ -16,8 +16,10 @@ use Rattle.theory.specs.Lines.{newline}
 use Rattle.lines.specs.declared.failure.Failure.{Failure}
 use Rattle.lines.specs.declared.failure.Failure.TheVariants.{Read, Write}
 use Rattle.lines.specs.declared.input.Line.{Line}
-use Rattle.lines.specs.declared.input.Line.TheVariants.{Ended}
-use Rattle.lines.specs.Input.{Input, input_of, Taken, Nexts, Unbroken, last, Took, Passes}
+use Rattle.lines.specs.declared.input.Line.TheVariants.{Ended, Full}
+use Rattle.lines.specs.declared.place.Place.{Place}
+use Rattle.lines.specs.Input.{Input, input_of, Taken, Unbroken}
+use Rattle.lines.specs.Place.{Inside, standing, Nexts, last, Took, Passes}
 
 -- ---- Bytes taken
 
@@ -51,9 +53,6 @@ taken_read {input} block {end} e p q = record {
   all = ap (λ (x : List ℕ). x ++ take end block) e ∙ first_of block 0 end p q;
   asked = inr (let n = ap length e in omega arith);
 }
-
-pub next_as : (input input' : Input) {r r' : Option ℕ} → r ≡ r' → Nexts input (Ok r) input' → Nexts input (Ok r') input'
-next_as input input' e h = subst (λ (r : Option ℕ). Nexts input (Ok r) input') e h
 
 module _ {input : Input} {bytes : List ℕ} {between : Input} (t : Taken input bytes between) where
   -- What comes then comes after what came before.
@@ -118,97 +117,152 @@ all_there {bytes = bytes} t e = (t.came, t.all ∙ ap (λ (x : List ℕ). bytes 
 none_unbroken : {bytes : List ℕ} → bytes ≡ [] → Unbroken bytes
 none_unbroken e = subst Unbroken (sym e) Memᴰ.not-nil
 
+-- ---- A place in a block
+
+pub inside_as : {place : Place} {block block' : List ℕ} → length block' ≡ length block → Inside place block → Inside place block'
+inside_as e i = record { ordered = i.ordered; within = let w = i.within in omega arith }
+
+pub nothing_left : (block : List ℕ) (place : Place) → place.at ≡ place.end → (standing block place).untaken ≡ []
+nothing_left block place e = used_up block e
+
+pub next_as : (block : List ℕ) (place : Place) (block' : List ℕ) {r r' : Option (ℕ × Place)} → r ≡ r' → Nexts block place (Ok r) block'
+    → Nexts block place (Ok r') block'
+next_as block place block' e h = subst (λ (r : Option (ℕ × Place)). Nexts block place (Ok r) block') e h
+
 -- ---- A line as it is stored
 
 -- So many bytes of the line are stored, and taken.
-pub record Stored (column₀ : List ℕ) (input₀ : Input) (column : List ℕ) (input : Input) (n : ℕ) : Type 0 where
+pub record Stored (block₀ column₀ : List ℕ) (place₀ : Place) (block column : List ℕ) (place : Place) (n : ℕ) : Type 0 where
+  pub inside : Inside place block
   pub column_length : length column ≡ length column₀
   pub unbroken : Unbroken (take n column)
-  pub taken : Taken input₀ (take n column) input
+  pub taken : Taken (standing block₀ place₀) (take n column) (standing block place)
 
-pub stored_none : {column : List ℕ} {input : Input} → Stored column input column input 0
-stored_none = record { column_length = refl; unbroken = Memᴰ.not-nil; taken = taken_none }
+pub stored_none : {block column : List ℕ} {place : Place} → Inside place block → Stored block column place block column place 0
+stored_none i = record { inside = i; column_length = refl; unbroken = Memᴰ.not-nil; taken = taken_none }
 
-module _ {column₀ column : List ℕ} {input₀ input : Input} {n : ℕ} (s : Stored column₀ input₀ column input n) where
-  module _ {b : ℕ} {input' : Input} (t : Taken input (b ∷ []) input') where
+module _ {block₀ column₀ block column : List ℕ} {place₀ place : Place} {n : ℕ} (s : Stored block₀ column₀ place₀ block column place n) where
+  module _ {block' : List ℕ} {b : ℕ} {place' : Place} (h : Nexts block place (Ok (Some (b, place'))) block') where
     -- The byte ends the line, or it is stored.
-    pub line_ended : n < length column₀ → b ≡ newline → Took input₀ (Ok (Some (Ended n))) input' column
+    pub line_ended : n < length column₀ → b ≡ newline → Took block₀ place₀ (Ok (Some (Ended n, place'))) block' column
     line_ended l e = record {
       holds = (
         let same = s.column_length in omega arith,
-        inl (s.unbroken, subst (λ (x : ℕ). Taken input₀ (take n column ++ (x ∷ [])) input') e (taken_then s.taken t)),
+        h.0,
+        inl (
+          s.unbroken,
+          subst (λ (x : ℕ). Taken (standing block₀ place₀) (take n column ++ (x ∷ [])) (standing block' place')) e (taken_then s.taken h.1),
+        ),
       );
     }
 
-    pub stored_byte : n < length column₀ → (b ≡ newline → ⊥) → Stored column₀ input₀ (set column n b) input' (n + 1)
+    pub stored_byte : n < length column₀ → (b ≡ newline → ⊥) → Stored block₀ column₀ place₀ block' (set column n b) place' (n + 1)
     stored_byte l d =
         let more : take (n + 1) (set column n b) ≡ take n column ++ (b ∷ [])
         = ap (λ (k : ℕ). take k (set column n b)) (add-one n) ∙ take-suc-set column n b (let e = s.column_length in omega arith) in
         record {
+          inside = h.0;
           column_length = length-set column n b ∙ s.column_length;
           unbroken = subst Unbroken (sym more) (unbroken_more s.unbroken d);
-          taken = subst (λ (x : List ℕ). Taken input₀ x input') (sym more) (taken_then s.taken t);
+          taken = subst (λ (x : List ℕ). Taken (standing block₀ place₀) x (standing block' place')) (sym more) (taken_then s.taken h.1);
         }
 
-  -- The input ends, or a read fails, where the block is used up.
-  pub line_last : {input' : Input} → (input.untaken ≡ []) × (input'.untaken ≡ []) → n < length column₀ → {line : Option Line} → line ≡ last n
-      → Took input₀ (Ok line) input' column
-  line_last {input'} e l q = subst (λ (r : Option Line). Took input₀ (Ok r) input' column) (sym q) (go (eqb n 0) refl)
-    where
-      within : n < length column
-      within = let e = s.column_length in omega arith
-
-      all : (came : List ℕ) × (input₀.untaken ++ came ≡ take n column)
-      all = all_there s.taken e.0
-
-      go : (b : Bool) → eqb n 0 ≡ b → Took input₀ (Ok (cond b None (Some (Ended n)))) input' column
-      go true z =
-          let none = all.1 ∙ ap (λ (k : ℕ). take k column) (eqb-true n 0 z) in
-          let n = ap length none in
-          record { holds = (no_bytes input₀.untaken (omega (arith, simp length-append at n)), e.1) }
-      go false z = record {
+  pub line_full : length column ≤ n → Took block₀ place₀ (Ok (Some (Full, place))) block column
+  line_full l =
+      let whole : take n column ≡ column = take_all n column l in
+      record {
         holds = (
-          within,
-          inr (let k = length-take-le n column (omega (arith, within)) in let d = eqb-false n 0 z in omega arith, (s.unbroken, all, e.1)),
+          s.inside,
+          (
+            subst Unbroken whole s.unbroken,
+            subst (λ (x : List ℕ). Taken (standing block₀ place₀) x (standing block place)) whole s.taken,
+          ),
         );
       }
 
-  pub line_failed : (input' : Input) (f : Failure) → Nexts input (Err f) input' → Took input₀ (Err f) input' column
-  line_failed input' Read e = record { holds = (unbroken_before s.taken s.unbroken (none_unbroken e.0), e.1) }
-  line_failed input' Write e = absurd e
+  -- The input ends, or a read fails, where the block is used up.
+  module _ {block' : List ℕ} where
+    pub line_last : place.at ≡ place.end → length block' ≡ length block → n < length column₀ → {line : Option (Line × Place)}
+        → line ≡ last n place → Took block₀ place₀ (Ok line) block' column
+    line_last e kept l q = subst (λ (r : Option (Line × Place)). Took block₀ place₀ (Ok r) block' column) (sym q) (go (eqb n 0) refl)
+      where
+        within : n < length column
+        within = let e = s.column_length in omega arith
+
+        all : (came : List ℕ) × ((standing block₀ place₀).untaken ++ came ≡ take n column)
+        all = all_there s.taken (nothing_left block place e)
+
+        go : (b : Bool) → eqb n 0 ≡ b → Took block₀ place₀ (Ok (cond b None (Some (Ended n, place)))) block' column
+        go true z =
+            let none = all.1 ∙ ap (λ (k : ℕ). take k column) (eqb-true n 0 z) in
+            let n = ap length none in
+            record { holds = no_bytes (standing block₀ place₀).untaken (omega (arith, simp length-append at n)) }
+        go false z = record {
+          holds = (
+            within,
+            inside_as kept s.inside,
+            inr (
+              let k = length-take-le n column (omega (arith, within)) in let d = eqb-false n 0 z in omega arith,
+              (s.unbroken, all, nothing_left block' place e),
+            ),
+          );
+        }
+
+  pub line_failed : (block' : List ℕ) (f : Failure) → Nexts block place (Err f) block' → Took block₀ place₀ (Err f) block' column
+  line_failed block' Read e = record { holds = unbroken_before s.taken s.unbroken (none_unbroken (nothing_left block place e)) }
+  line_failed block' Write e = absurd e
 
 -- ---- The rest of a line
 
 -- The bytes passed over are as many as the turns that are gone.
-pub record Passing (input₀ input : Input) (turns : ℕ) : Type 0 where
+pub record Passing (block₀ : List ℕ) (place₀ : Place) (block : List ℕ) (place : Place) (turns : ℕ) : Type 0 where
+  pub inside : Inside place block
   pub bytes : List ℕ
   pub unbroken : Unbroken bytes
-  pub taken : Taken input₀ bytes input
+  pub taken : Taken (standing block₀ place₀) bytes (standing block place)
   pub counted : length bytes ≡ turns
 
-pub passing_none : {input : Input} → Passing input input 0
-passing_none = record { bytes = []; unbroken = Memᴰ.not-nil; taken = taken_none; counted = refl }
+pub passing_none : {block : List ℕ} {place : Place} → Inside place block → Passing block place block place 0
+passing_none i = record { inside = i; bytes = []; unbroken = Memᴰ.not-nil; taken = taken_none; counted = refl }
 
-module _ {input₀ input : Input} {turns : ℕ} (s : Passing input₀ input turns) where
-  module _ {b : ℕ} {input' : Input} (t : Taken input (b ∷ []) input') where
-    pub rest_ended : b ≡ newline → Passes input₀ (Ok tt) input'
-    rest_ended e = (s.bytes, inl (s.unbroken, subst (λ (x : ℕ). Taken input₀ (s.bytes ++ (x ∷ [])) input') e (taken_then s.taken t)))
+module _ {block₀ : List ℕ} {place₀ : Place} {block : List ℕ} {place : Place} {turns : ℕ} (s : Passing block₀ place₀ block place turns) where
+  module _ {block' : List ℕ} {b : ℕ} {place' : Place} (h : Nexts block place (Ok (Some (b, place'))) block') where
+    pub rest_ended : b ≡ newline → Passes block₀ place₀ (Ok place') block'
+    rest_ended e = (
+      h.0,
+      (
+        s.bytes,
+        inl (
+          s.unbroken,
+          subst (λ (x : ℕ). Taken (standing block₀ place₀) (s.bytes ++ (x ∷ [])) (standing block' place')) e (taken_then s.taken h.1),
+        ),
+      ),
+    )
 
-    pub passing_byte : (b ≡ newline → ⊥) → Passing input₀ input' (turns + 1)
+    pub passing_byte : (b ≡ newline → ⊥) → Passing block₀ place₀ block' place' (turns + 1)
     passing_byte d = record {
+      inside = h.0;
       bytes = s.bytes ++ (b ∷ []);
       unbroken = unbroken_more s.unbroken d;
-      taken = taken_then s.taken t;
+      taken = taken_then s.taken h.1;
       counted = let k = s.counted in let m = length-append s.bytes (b ∷ []) in omega arith;
     }
 
-  pub rest_last : {input' : Input} → (input.untaken ≡ []) × (input'.untaken ≡ []) → Passes input₀ (Ok tt) input'
-  rest_last e = (s.bytes, inr (s.unbroken, all_there s.taken e.0, e.1))
+  module _ {block' : List ℕ} where
+    pub rest_last : place.at ≡ place.end → length block' ≡ length block → Passes block₀ place₀ (Ok place) block'
+    rest_last e kept = (
+      inside_as kept s.inside,
+      (s.bytes, inr (s.unbroken, all_there s.taken (nothing_left block place e), nothing_left block' place e)),
+    )
 
-  pub rest_failed : (input' : Input) (f : Failure) → Nexts input (Err f) input' → Passes input₀ (Err f) input'
-  rest_failed input' Read e = (unbroken_before s.taken s.unbroken (none_unbroken e.0), e.1)
-  rest_failed input' Write e = absurd e
+  pub rest_failed : (block' : List ℕ) (f : Failure) → Nexts block place (Err f) block' → Passes block₀ place₀ (Err f) block'
+  rest_failed block' Read e = unbroken_before s.taken s.unbroken (none_unbroken (nothing_left block place e))
+  rest_failed block' Write e = absurd e
 
   -- What was untaken is not longer than the turns, so that all of it is passed over by then.
-  pub rest_endless : length input₀.untaken ≤ turns → (input' : Input) → input'.untaken ≡ [] → Passes input₀ (Err Read) input'
-  rest_endless l input' e = (unbroken_all s.taken s.unbroken (let k = s.counted in omega arith), e)
+  pub rest_endless : Inside place₀ block₀ → length block₀ ≤ turns → Passes block₀ place₀ (Err Read) block
+  rest_endless i l =
+      let short = untaken_short block₀ place₀.at i.within in
+      let w = i.within in
+      let k = s.counted in
+      unbroken_all s.taken s.unbroken (omega arith)

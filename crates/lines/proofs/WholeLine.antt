@@ -1,7 +1,7 @@
 -- A line taken to its end.
 use Prim.Native.Nat.{ℕ, ◌<◌}
 use native.Mathlib.Omega.{arith}
-use mathlib.Core.Path.{◌≡◌, sym, subst}
+use mathlib.Core.Path.{◌≡◌, sym, ap, ◌∙◌, subst}
 use mathlib.Core.Logic.{◌⊎◌, inl, inr}
 use mathlib.Core.List.{List, [], ◌∷◌, ◌++◌, append_assoc}
 use lib.ListN.{length, length-append}
@@ -11,7 +11,9 @@ use Rattle.lines.specs.declared.failure.Failure.{Failure}
 use Rattle.lines.specs.declared.failure.Failure.TheVariants.{Read, Write}
 use Rattle.lines.specs.declared.input.Line.{Line}
 use Rattle.lines.specs.declared.input.Line.TheVariants.{Full}
-use Rattle.lines.specs.Input.{Input, Taken, Unbroken, ToNewline, ToEnd, Comes, Took, TookWhole, Passes}
+use Rattle.lines.specs.declared.place.Place.{Place}
+use Rattle.lines.specs.Input.{Input, Taken, Unbroken, ToNewline, ToEnd, Comes}
+use Rattle.lines.specs.Place.{Took, TookWhole, Passes}
 use Rattle.lines.proofs.Taking.{after, taken_then, unbroken_joined, unbroken_before}
 
 whole_of : {input : Input} {column : List ℕ} {between : Input} {bytes : List ℕ} {end : Input} → 0 < length column → Unbroken column
@@ -24,14 +26,17 @@ whole_of {input} {column} {bytes = bytes} {end} l u t (inl p) =
 whole_of {column = column} {bytes = bytes} l u t (inr p) =
     inr (omega (arith, length-append column bytes), (unbroken_joined u p.0, (_, after t p.1.0 p.1.1), p.2))
 
-module _ {input between : Input} {line : Option Line} {column : List ℕ} (e : line ≡ Some Full) (t : Took input (Ok line) between column) where
-  full : Unbroken column × Taken input column between
-  full = let full = subst (λ (r : Option Line). Took input (Ok r) between column) e t in full.holds
+pub took_full : (block : List ℕ) (place : Place) (block' column : List ℕ) {r : Option (Line × Place)} {line : Line} {so_far : Place}
+    → r ≡ Some (line, so_far) → line ≡ Full → Took block place (Ok r) block' column → Took block place (Ok (Some (Full, so_far))) block' column
+took_full block place block' column {so_far = so_far} e l t =
+    subst (λ (r : Option (Line × Place)). Took block place (Ok r) block' column) (e ∙ ap (λ (line : Line). Some (line, so_far)) l) t
 
-  pub with_rest : {end : Input} → 0 < length column → Passes between (Ok tt) end → TookWhole input (Ok line) end column
-  with_rest {end} l p =
-      subst (λ (r : Option Line). TookWhole input (Ok r) end column) (sym e) (record { holds = (p.0, whole_of l full.0 full.1 p.1) })
+module _ {block : List ℕ} {place : Place} {between column : List ℕ} {so_far : Place} (t : Took block place (Ok (Some (Full, so_far))) between column)
+    {block' : List ℕ} where
+  pub with_rest : {end : Place} → 0 < length column → Passes between so_far (Ok end) block'
+      → TookWhole block place (Ok (Some (Full, end))) block' column
+  with_rest l p = record { holds = (p.0, (p.1.0, whole_of l t.holds.1.0 t.holds.1.1 p.1.1)) }
 
-  pub without_rest : {end : Input} (f : Failure) → Passes between (Err f) end → TookWhole input (Err f) end column
-  without_rest Read p = record { holds = (unbroken_before full.1 full.0 p.0, p.1) }
+  pub without_rest : (f : Failure) → Passes between so_far (Err f) block' → TookWhole block place (Err f) block' column
+  without_rest Read p = record { holds = unbroken_before t.holds.1.1 t.holds.1.0 p }
   without_rest Write p = absurd p

@@ -1,6 +1,6 @@
 -- What a taken line is: the bytes that stood in the block, up to a newline; where they do not reach one, what a read put into the block after
 -- them. What a read puts there is the source's to say.
-use Rattle.std.specs.Prelude.{ℕ, ◌+◌, ◌<◌, ◌≤◌, ◌≡◌, Bool, true, false, cond, ◌⊎◌, length, take, drop, eqb, Option, None, Some, Result, Ok, Err}
+use Rattle.std.specs.Prelude.{ℕ, ◌+◌, ◌<◌, ◌≤◌, ◌≡◌, Bool, true, false, ◌⊎◌, length, take, drop, Option, None, Some, Result, Ok, Err}
 use mathlib.Core.List.{List, [], ◌∷◌, ◌++◌, Memᴰ}
 use Rattle.std.proofs.Math.Seq.{slice}
 use Rattle.theory.specs.Lines.{newline}
@@ -31,19 +31,6 @@ pub record Taken (input : Input) (bytes : List ℕ) (input' : Input) : Type 0 wh
   pub all : input.untaken ++ came ≡ bytes ++ input'.untaken
   pub asked : ((came ≡ []) × (input'.taken ≡ input.taken ++ bytes) × (input'.spare ≡ input.spare)) ⊎ (length input.untaken < length bytes)
 
--- How much of the block a read filled.
-abbrev pub Fills : Result (Option ℕ) Failure → List ℕ → Type 0
-Fills (Ok (Some end)) block = (0 < end) × (end ≤ length block)
-Fills (Ok None) block = Unit {0}
-Fills (Err Read) block = Unit {0}
-Fills (Err Write) block = ⊥
-
-abbrev pub Nexts : Input → Result (Option ℕ) Failure → Input → Type 0
-Nexts input (Ok (Some b)) input' = Taken input (b ∷ []) input'
-Nexts input (Ok None) input' = (input.untaken ≡ []) × (input'.untaken ≡ [])
-Nexts input (Err Read) input' = (input.untaken ≡ []) × (input'.untaken ≡ [])
-Nexts input (Err Write) input' = ⊥
-
 abbrev pub Unbroken : List ℕ → Type 0
 Unbroken bytes = Memᴰ newline bytes → ⊥
 
@@ -73,10 +60,6 @@ Holds Over input (Ok (Some Full)) input' column = Over input'
 Holds Over input (Err Read) input' column = Unbroken input.untaken × (input'.untaken ≡ [])
 Holds Over input (Err Write) input' column = ⊥
 
--- The answer where the input ends after n bytes of a line.
-abbrev pub last : ℕ → Option Line
-last n = cond (eqb n 0) None (Some (Ended n))
-
 pub record Stores (Over : Input → Type 0) (input : Input) (line : Result (Option Line) Failure) (input' : Input) (column : List ℕ) : Type 0 where
   pub holds : Holds Over input line input' column
 
@@ -103,9 +86,3 @@ Within most (Some Full) = Unit {0}
 pub record Whole (most : ℕ) (line : Option Line) (column : List ℕ) : Type 0 where
   pub room : length column ≡ most + 1
   pub within : Within most line
-
--- The rest of a line is passed over, with its newline. A read fails only where no newline is left in the block, and then nothing is untaken.
-abbrev pub Passes : Input → Result Unit Failure → Input → Type 0
-Passes input (Ok _) input' = (bytes : List ℕ) × (ToNewline input bytes input' ⊎ ToEnd input bytes input')
-Passes input (Err Read) input' = Unbroken input.untaken × (input'.untaken ≡ [])
-Passes input (Err Write) input' = ⊥

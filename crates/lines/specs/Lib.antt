@@ -1,3 +1,5 @@
 pub mod Input
+pub mod Place
 pub mod Output
+pub mod Block
 pub mod Turn

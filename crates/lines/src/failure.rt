@@ -2,7 +2,7 @@
 
 ghost use Rattle.lines.specs.Output.{told_length, Wrote};
 
-use crate::output;
+use crate::block;
 
 #[derive(Clone, Copy)]
 pub enum Failure {
@@ -17,8 +17,8 @@ impl Failure {
         ensures { Wrote (told_length self) result }
     {
         match self {
-            Failure::Read => output::hand_over(output::STDERR, b"gumpaleri 0.4.0: read failed\n"),
-            Failure::Write => output::hand_over(output::STDERR, b"gumpaleri 0.4.0: write failed\n"),
+            Failure::Read => block::hand_over(block::STDERR, b"gumpaleri 0.4.0: read failed\n"),
+            Failure::Write => block::hand_over(block::STDERR, b"gumpaleri 0.4.0: write failed\n"),
         }
     }
 }

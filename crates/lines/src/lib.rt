@@ -2,7 +2,9 @@
 
 #![tactic(auto)]
 
+pub mod block;
 pub mod failure;
 pub mod input;
 pub mod output;
+pub mod place;
 pub mod turn;

@@ -5,17 +5,11 @@ ghost use Rattle.theory.specs.Lines.{number_and, row, refusal_line};
 ghost use Rattle.theory.specs.Stated.{stated};
 ghost use Rattle.lines.specs.Output.{number_room, line_room, Wrote, WroteOut, Roomy};
 
+use crate::block;
+pub use crate::block::LINE;
 use crate::failure::Failure;
 use std::marker::Model;
 use theory::refusal::Refusal;
-
-// No line of the records program and of the room report, and no refusal, is longer.
-pub const LINE: usize = 128;
-
-// The streams by their numbers.
-const STDOUT: i32 = 1;
-
-pub(crate) const STDERR: i32 = 2;
 
 // The used bytes of the block are held: they are to be written out.
 #[derive(Drop)]
@@ -48,23 +42,15 @@ impl<const ROOM: usize> Output<ROOM> {
         requires { length self.old + length bytes.now ≤ ROOM }
         ensures { self.new ≡ self.old ++ bytes.now }
     {
-        let end = self.used + bytes.len();
-        let block = &mut self.block[..];
-        block[self.used..end].copy_from_slice(bytes);
-        self.used = end;
+        self.used = block::word(&mut self.block, self.used, bytes);
     }
 
     // A number in decimal and one byte.
-    #[tactic(auto, using(crate::proofs::Putting::number_text, crate::proofs::Putting::number_put))]
     pub fn number(&mut self, n: usize, after: u8)
         requires { length self.old + length (number_and n after) ≤ ROOM }
         ensures { self.new ≡ self.old ++ number_and n after }
     {
-        // 64 bits have at most 20 digits.
-        let mut digits = [0u8; 20];
-        let count = io::decimal(n as u64, &mut digits);
-        self.word(&digits[..count]);
-        self.word(&[after]);
+        self.used = block::number(&mut self.block, self.used, n, after);
     }
 
     // Numbers on a line, single-spaced.
@@ -73,10 +59,7 @@ impl<const ROOM: usize> Output<ROOM> {
         ensures put { self.new ≡ self.old ++ row numbers.now last }
         ensures upper_bound { length self.new ≤ length self.old + (length numbers.now + 1) * number_room }
     {
-        for number in numbers {
-            self.number(*number as usize, b' ');
-        }
-        self.number(last as usize, b'\n');
+        self.used = block::row(&mut self.block, self.used, numbers, last);
     }
 
     // 01: "Both print `refused R P` (number, place) on a refusal".
@@ -85,9 +68,8 @@ impl<const ROOM: usize> Output<ROOM> {
         ensures put { self.new ≡ self.old ++ refusal_line (stated refusal) }
         ensures upper_bound { length self.new ≤ length self.old + line_room }
     {
-        self.word(b"refused ");
-        self.number(refusal.cause.number() as usize, b' ');
-        self.number(refusal.place, b'\n');
+        let number = refusal.cause.number();
+        self.used = block::refused(&mut self.block, self.used, number, refusal.place);
     }
 
     // What is held, and no other bytes.
@@ -95,7 +77,7 @@ impl<const ROOM: usize> Output<ROOM> {
         requires { bytes.now ≡ self.now }
         ensures { Wrote (length bytes.now) result }
     {
-        hand_over(STDOUT, bytes)
+        block::write(bytes)
     }
 
     // What a program answers goes out whole. How many bytes that were.
@@ -112,21 +94,10 @@ impl<const ROOM: usize> Output<ROOM> {
         requires { line_room ≤ ROOM }
         ensures { Roomy ROOM self.old waits result self.new }
     {
-        if waits || ROOM - self.used < LINE {
+        if block::is_due(ROOM, self.used, waits) {
             self.write_out()
         } else {
             Ok(0)
         }
-    }
-}
-
-// Whatever a program says goes out by this one call.
-pub(crate) fn hand_over(stream: i32, bytes: &[u8]) -> Result<usize, Failure>
-    ensures { Wrote (length bytes.now) result }
-{
-    if io::write_all(stream, bytes) {
-        Ok(bytes.len())
-    } else {
-        Err(Failure::Write)
     }
 }
