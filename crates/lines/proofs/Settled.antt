@@ -1,20 +1,23 @@
 -- Where a newline stands among the bytes that are not taken yet, and the column holds the bytes before it, all is settled: the line is those
 -- bytes, the block stays as it is, and the next line begins after the newline. What a read would put into the block plays no part.
-use Prim.Native.Nat.{ℕ, ◌≤◌, ◌<◌}
+use Prim.Native.Nat.{ℕ, ◌+◌, ◌≤◌, ◌<◌}
 use native.Mathlib.Omega.{arith}
 use mathlib.Core.Path.{◌≡◌, refl, sym, ap, ap₂, ◌∙◌, subst}
-use mathlib.Core.Logic.{inl, inr}
+use mathlib.Core.Logic.{◌⊎◌, inl, inr}
 use mathlib.Core.List.Memᴰ
 use mathlib.Core.List.{List, [], ◌∷◌, ◌++◌, append-nil, append_assoc, Memᴰ}
-use lib.ListN.{length, take, length-append}
-use lib.Seq.{length-take-le}
+use lib.ListN.{length, take, drop, length-drop, length-append, take-append-drop}
+use lib.Seq.{slice, length-take-le, take-take}
 use Rattle.std.specs.Prelude.{Option, None, Some, Result, Ok, Err}
 use Rattle.theory.specs.Lines.{newline}
 use Rattle.lines.specs.declared.failure.Failure.{Failure}
 use Rattle.lines.specs.declared.failure.Failure.TheVariants.{Read, Write}
 use Rattle.lines.specs.declared.input.Line.{Line}
 use Rattle.lines.specs.declared.input.Line.TheVariants.{Ended, Full}
-use Rattle.lines.specs.Input.{Input, Unbroken, ToNewline, Took}
+use Rattle.lines.specs.declared.place.Place.{Place}
+use Rattle.lines.specs.Input.{Input, Taken, Unbroken, ToNewline, Took}
+use Rattle.lines.specs.Place.{Inside, standing}
+use Rattle.lines.specs.Place as place
 
 -- Up to its first newline a text is one list.
 first_newline : (xs us ys vs : List ℕ) → Unbroken xs → Unbroken ys → xs ++ newline ∷ us ≡ ys ++ newline ∷ vs → (xs ≡ ys) × (us ≡ vs)
@@ -82,3 +85,99 @@ module _ (input : Input) (bytes rest : List ℕ) (u : Unbroken bytes) (stands : 
         absurd (v (newline_within bytes (rest ++ t.came) column input'.untaken l (sym (with_more t.came) ∙ t.all)))
     settled (Err Read) l h = absurd (broken h.holds.0)
     settled (Err Write) l h = absurd h.holds
+
+-- ---- At a place of a lent block
+
+pieces : (block : List ℕ) (place : Place) → Inside place block
+    → (take place.at block ++ slice place.at place.end block) ++ drop place.end block ≡ block
+pieces block place i =
+    ap (λ (x : List ℕ). (x ++ slice place.at place.end block) ++ drop place.end block) (sym (take-take place.at place.end block i.ordered))
+    ∙ ap (λ (x : List ℕ). x ++ drop place.end block) (take-append-drop place.at (take place.end block)) ∙ take-append-drop place.end block
+
+-- Where no more is taken than stood there, the block and its end stay as they are.
+pub stays : {block block' : List ℕ} {from to : Place} {bytes : List ℕ} → Inside from block → Inside to block' → length block' ≡ length block
+    → (t : Taken (standing block from) bytes (standing block' to))
+    → ((t.came ≡ []) × (block' ≡ block) × (to.end ≡ from.end)) ⊎ (length (standing block from).untaken < length bytes)
+stays {block} {block'} {from} {to} {bytes} i j e t = go t.asked
+  where
+    left : List ℕ
+    left = slice to.at to.end block'
+
+    go : ((t.came ≡ []) × (take to.at block' ≡ take from.at block ++ bytes) × (drop to.end block' ≡ drop from.end block))
+        ⊎ (length (standing block from).untaken < length bytes)
+        → ((t.came ≡ []) × (block' ≡ block) × (to.end ≡ from.end)) ⊎ (length (standing block from).untaken < length bytes)
+    go (inl (none, taken, spare)) =
+        inl (
+          none,
+          sym (pieces block' to j) ∙ ap (λ (x : List ℕ). (x ++ left) ++ drop to.end block') taken
+              ∙ ap (λ (x : List ℕ). ((take from.at block ++ bytes) ++ left) ++ x) spare
+              ∙ ap (λ (x : List ℕ). x ++ drop from.end block)
+              (append_assoc (take from.at block) bytes left
+              ∙ ap (λ (x : List ℕ). take from.at block ++ x)
+              (sym t.all ∙ ap (λ (x : List ℕ). slice from.at from.end block ++ x) none ∙ append-nil (slice from.at from.end block)))
+              ∙ pieces block from i,
+          let long = length-drop from.end block in
+              let long' = length-drop to.end block' in
+              let same = ap length spare in
+              let within = i.within in
+              let within' = j.within in
+              omega arith,
+        )
+    go (inr l) = inr l
+
+-- The line is these bytes of the block, and the place after it is right after its newline.
+pub record LineAtPlace (block : List ℕ) (from : Place) (bytes : List ℕ) (line : Result (Option (Line × Place)) Failure) (block' column : List ℕ)
+    : Type 0 where
+  pub is : line ≡ Ok (Some (Ended (length bytes), record { at = from.at + length bytes + 1; end = from.end }))
+  pub kept : block' ≡ block
+  pub stored : take (length bytes) column ≡ bytes
+
+ended_length : Result (Option Line) Failure → ℕ
+ended_length (Ok None) = 0
+ended_length (Ok (Some (Ended n))) = n
+ended_length (Ok (Some Full)) = 0
+ended_length (Err f) = 0
+
+module _ {block : List ℕ} {from : Place} (i : Inside from block) (bytes rest : List ℕ) (u : Unbroken bytes)
+    (stands : (standing block from).untaken ≡ bytes ++ newline ∷ rest) {block' column : List ℕ} (kept : length block' ≡ length block) where
+  line_at : {n : ℕ} {to : Place} → n ≤ length column → Inside to block' → ToNewline (standing block from) (take n column) (standing block' to)
+      → LineAtPlace block from bytes (Ok (Some (Ended n, to))) block' column
+  unfolding ended_length
+  line_at {n} {to} w j (v, t) =
+      let s = of_line (standing block from) bytes rest u stands w (v, t) in
+      let many : n ≡ length bytes = ap ended_length s.is in
+      elim (stays i j kept t) [
+        | inl k ↦
+            let before = length-take-le from.at block (let o = i.ordered in let m = i.within in omega arith) in
+            let now = length-take-le to.at block' (let o = j.ordered in let m = j.within in omega arith) in
+            let taken = ap length s.taken in
+            let at : to.at ≡ from.at + length bytes + 1 = omega (arith, simp length-append at taken) in
+            record {
+              is = ap₂ (λ (m : ℕ) (p : Place). Ok (Some (Ended m, p))) many (ap₂ (λ (a z : ℕ). record { at = a; end = z }) at k.2);
+              kept = k.1;
+              stored = s.stored;
+            }
+        | inr l ↦
+            let held = ap length stands in
+            let long = length-take-le n column w in
+            absurd (omega (arith, simp length-append at held, simp length-append at l))
+      ]
+
+  pub settled_at : (line : Result (Option (Line × Place)) Failure) → length bytes < length column → place.Took block from line block' column
+      → LineAtPlace block from bytes line block' column
+  settled_at (Ok None) l h = absurd (broken (standing block from) bytes rest u stands (subst Unbroken (sym h.holds) Memᴰ.not-nil))
+  settled_at (Ok (Some (Ended n, to))) l h = elim h.holds.2 [
+    | inl t ↦ line_at (let k = h.holds.0 in omega arith) h.holds.1 t
+    | inr t ↦
+        absurd (broken (standing block from) bytes rest u stands (λ m. t.1.0 (subst (Memᴰ newline) t.1.1.1 (Memᴰ.append_left t.1.1.0 m))))
+  ]
+  settled_at (Ok (Some (Full, to))) l h =
+      let (v, t) = h.holds.1 in
+      absurd (
+      v (
+      newline_within bytes (rest ++ t.came) column (standing block' to).untaken l
+      (sym (with_more (standing block from) bytes rest u stands t.came) ∙ t.all)
+      )
+      )
+  settled_at (Err Read) l h = absurd (broken (standing block from) bytes rest u stands h.holds)
+  settled_at (Err Write) l h = absurd h.holds

@@ -44,18 +44,16 @@ fn take_byte<R: Read>(
     requires { Inside place block.old }
     ensures { Nexts block.old place result block.new }
 {
-    let at = place.at;
-    if at < place.end {
-        let after = Place {
-            at: at + 1,
-            end: place.end,
+    let mut place = place;
+    if place.at == place.end {
+        let Some(end) = fill(source, block)? else {
+            return Ok(None);
         };
-        return Ok(Some((block[at], after)));
+        place = Place { at: 0, end };
     }
-    match fill(source, block)? {
-        None => Ok(None),
-        Some(end) => Ok(Some((block[0], Place { at: 1, end }))),
-    }
+    let byte = block[place.at];
+    place.at += 1;
+    Ok(Some((byte, place)))
 }
 
 // Whether the next line needs a read: no newline stands among the bytes that are not taken yet.
