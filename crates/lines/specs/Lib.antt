@@ -3,3 +3,4 @@ pub mod Place
 pub mod Output
 pub mod Block
 pub mod Turn
+pub mod Lent
