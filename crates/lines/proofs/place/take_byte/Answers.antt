@@ -1,5 +1,5 @@
 -- `take_byte` takes the next byte of the block, or fills the block, and takes the first byte that came.
-use Rattle.std.proofs.Common.{ℕ, Option, Ok, ◌≤◌, ◌<◌, subst, arith}
+use Rattle.std.proofs.Common.{ℕ, Option, Ok, ◌<◌, subst, arith}
 use Rattle.lines.specs.Place.{Fills}
 use Rattle.lines.proofs.Taking.{nothing_left, taken_here, taken_read}
 use Rattle.lines.proofs.place.take_byte.Goals.{then-place+in_ok-end+in-Some, else-place}
