@@ -95,10 +95,10 @@ pieces block place i =
     ∙ ap (λ (x : List ℕ). x ++ drop place.end block) (take-append-drop place.at (take place.end block)) ∙ take-append-drop place.end block
 
 -- Where no more is taken than stood there, the block and its end stay as they are.
-pub stays : {block block' : List ℕ} {from to : Place} {bytes : List ℕ} → Inside from block → Inside to block' → length block' ≡ length block
+pub stays : {block block' : List ℕ} {from to : Place} {bytes : List ℕ} → Inside from block → Inside to block'
     → (t : Taken (standing block from) bytes (standing block' to))
     → ((t.came ≡ []) × (block' ≡ block) × (to.end ≡ from.end)) ⊎ (length (standing block from).untaken < length bytes)
-stays {block} {block'} {from} {to} {bytes} i j e t = go t.asked
+stays {block} {block'} {from} {to} {bytes} i j t = go t.asked
   where
     left : List ℕ
     left = slice to.at to.end block'
@@ -107,22 +107,21 @@ stays {block} {block'} {from} {to} {bytes} i j e t = go t.asked
         ⊎ (length (standing block from).untaken < length bytes)
         → ((t.came ≡ []) × (block' ≡ block) × (to.end ≡ from.end)) ⊎ (length (standing block from).untaken < length bytes)
     go (inl (none, taken, spare)) =
-        inl (
-          none,
-          sym (pieces block' to j) ∙ ap (λ (x : List ℕ). (x ++ left) ++ drop to.end block') taken
-              ∙ ap (λ (x : List ℕ). ((take from.at block ++ bytes) ++ left) ++ x) spare
-              ∙ ap (λ (x : List ℕ). x ++ drop from.end block)
-              (append_assoc (take from.at block) bytes left
-              ∙ ap (λ (x : List ℕ). take from.at block ++ x)
-              (sym t.all ∙ ap (λ (x : List ℕ). slice from.at from.end block ++ x) none ∙ append-nil (slice from.at from.end block)))
-              ∙ pieces block from i,
-          let long = length-drop from.end block in
-              let long' = length-drop to.end block' in
-              let same = ap length spare in
-              let within = i.within in
-              let within' = j.within in
-              omega arith,
-        )
+        let same_block : block' ≡ block =
+        sym (pieces block' to j) ∙ ap (λ (x : List ℕ). (x ++ left) ++ drop to.end block') taken
+        ∙ ap (λ (x : List ℕ). ((take from.at block ++ bytes) ++ left) ++ x) spare
+        ∙ ap (λ (x : List ℕ). x ++ drop from.end block)
+        (append_assoc (take from.at block) bytes left
+        ∙ ap (λ (x : List ℕ). take from.at block ++ x)
+        (sym t.all ∙ ap (λ (x : List ℕ). slice from.at from.end block ++ x) none ∙ append-nil (slice from.at from.end block)))
+        ∙ pieces block from i in
+        let e = ap length same_block in
+        let long = length-drop from.end block in
+        let long' = length-drop to.end block' in
+        let same = ap length spare in
+        let within = i.within in
+        let within' = j.within in
+        inl (none, same_block, omega arith)
     go (inr l) = inr l
 
 -- The line is these bytes of the block, and the place after it is right after its newline.
@@ -139,14 +138,14 @@ ended_length (Ok (Some Full)) = 0
 ended_length (Err f) = 0
 
 module _ {block : List ℕ} {from : Place} (i : Inside from block) (bytes rest : List ℕ) (u : Unbroken bytes)
-    (stands : (standing block from).untaken ≡ bytes ++ newline ∷ rest) {block' column : List ℕ} (kept : length block' ≡ length block) where
+    (stands : (standing block from).untaken ≡ bytes ++ newline ∷ rest) {block' column : List ℕ} where
   line_at : {n : ℕ} {to : Place} → n ≤ length column → Inside to block' → ToNewline (standing block from) (take n column) (standing block' to)
       → LineAtPlace block from bytes (Ok (Some (Ended n, to))) block' column
   unfolding ended_length
   line_at {n} {to} w j (v, t) =
       let s = of_line (standing block from) bytes rest u stands w (v, t) in
       let many : n ≡ length bytes = ap ended_length s.is in
-      elim (stays i j kept t) [
+      elim (stays i j t) [
         | inl k ↦
             let before = length-take-le from.at block (let o = i.ordered in let m = i.within in omega arith) in
             let now = length-take-le to.at block' (let o = j.ordered in let m = j.within in omega arith) in
