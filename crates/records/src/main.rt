@@ -66,7 +66,9 @@ fn judge<R: Read>(
     Ok(())
 }
 
-// From the expression line to the automaton, or to the refusal's line.
+// From the expression line to the automaton, or to the refusal's line. Not inline: so the loops over the records come early in the function that has them,
+// and the compiler aligns them.
+#[inline(never)]
 fn automaton_of(
     line: Option<Line>,
     column: &[u8],
