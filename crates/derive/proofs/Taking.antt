@@ -8,7 +8,7 @@ use mathlib.Core.List.Memᴰ
 use mathlib.Core.List.{Memᴰ}
 use Rattle.theory.specs.Expression.{Expression, pair, star, parts}
 use Rattle.theory.specs.Distinct.{Within}
-use Rattle.theory.specs.Table.{Table, Row, entry, Sound, of_star, kind_of_sign, trees, tree_at, row_tree}
+use Rattle.theory.specs.Table.{Table, Row, entry, Sound, of_sign, of_star, kind_of_sign, trees, tree_at, row_tree}
 use Rattle.theory.proofs.Pair.{pair_left, pair_right}
 use Rattle.theory.proofs.Trees.{trees_below}
 use Rattle.theory.proofs.Bounds.Parts.{part_whole, part_inner}
@@ -102,21 +102,29 @@ module _ {g : Table} {j : ℕ} {w : Row} {named : Children} (k : Read g j w name
         right_full {r = r} h e =
             full_for r e (short_then from_left (short_part (tree_at g d) (tree_at g j) (right_parts q) h.answer))
 
-        -- The sign's row over what both children became, however it was made.
-        module _ {y : ℕ} (b : Took t₁ u room (tree_at g d) y t₂ v) {made : Row} (z : entry w.kind x y ≡ made) where
+        -- The sign's row over what both children became.
+        module _ {y : ℕ} (b : Took t₁ u room (tree_at g d) y t₂ v) where
           left_still : x < v
           left_still = lt_of_lt_of_le a.there b.came.grown.more
 
-          row_is : made ≡ entry (kind_of_sign (sign_read k q).0) x y
-          row_is = sym z ∙ ap (λ (i : ℕ). entry i x y) (sign_read k q).3
+          signed : entry w.kind x y ≡ entry (kind_of_sign (sign_read k q).0) x y
+          signed = ap (λ (i : ℕ). entry i x y) (sign_read k q).3
 
-          pub takes_pair : {t₃ : Table} {n₃ : ℕ} {r : Result ℕ NoRoom} → Interns t₂ v room (row_tree made (trees t₂ v)) r t₃ n₃
-              → Takes t n room (tree_at g j) r t₃ n₃
-          takes_pair h =
-              let p = sign_read k q in
-              takes_after (came_then from_left (came_part (tree_at g d) (tree_at g j) (right_parts q) b.came))
-              (ap (λ i. row_tree i (trees t₂ v)) row_is ∙ sign_tree p.0 x y (trees t₂ v)
-              ∙ ap₂ (pair p.0) (trees_below t₂ v x left_still ∙ grown_tree b.came.grown a.there ∙ a.is)
-              (trees_below t₂ v y b.there ∙ b.is)
-              ∙ sym p.4)
-              h
+          pub pair_sound : Sound v (entry w.kind x y)
+          pair_sound = of_sign (sign_read k q).0 x y left_still b.there signed
+
+          -- However it was made.
+          module _ {made : Row} (z : entry w.kind x y ≡ made) where
+            row_is : made ≡ entry (kind_of_sign (sign_read k q).0) x y
+            row_is = sym z ∙ signed
+
+            pub takes_pair : {t₃ : Table} {n₃ : ℕ} {r : Result ℕ NoRoom} → Interns t₂ v room (row_tree made (trees t₂ v)) r t₃ n₃
+                → Takes t n room (tree_at g j) r t₃ n₃
+            takes_pair h =
+                let p = sign_read k q in
+                takes_after (came_then from_left (came_part (tree_at g d) (tree_at g j) (right_parts q) b.came))
+                (ap (λ i. row_tree i (trees t₂ v)) row_is ∙ sign_tree p.0 x y (trees t₂ v)
+                ∙ ap₂ (pair p.0) (trees_below t₂ v x left_still ∙ grown_tree b.came.grown a.there ∙ a.is)
+                (trees_below t₂ v y b.there ∙ b.is)
+                ∙ sym p.4)
+                h

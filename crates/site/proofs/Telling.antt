@@ -2,7 +2,9 @@
 use native.Mathlib.Decide.{ℕ_discrete}
 use native.Mathlib.Omega.{arith}
 use mathlib.Core.Path.{◌≡◌, refl, sym, ap, ◌∙◌, subst}
+use mathlib.Core.Bool.{true, false, true≢false}
 use Rattle.std.specs.Prelude.{Result, Ok, Err, MatchResult}
+use Rattle.std.specs.Result.{is_err}
 use Rattle.theory.specs.Arcs.{ArcColumns}
 use Rattle.theory.specs.Expression.{Expression}
 use Rattle.theory.specs.Refusal.{Refusal}
@@ -129,11 +131,20 @@ module _ {text : Text} {w : Word} {s s₁ : Shown} {a : Report} (h : Made text s
       → Judged (handed a.states s₁.accepting a.arcs s₁.arcs) w k answer k'
   over_own {answer} d = subst (λ (c : ArcColumns). Judged (handed a.states s₁.accepting a.arcs c) w k answer k') same d
 
+  pub told_verdict : (j : Result Verdict Refused) → false ≡ is_err j → Judged (handed a.states s₁.accepting a.arcs columns) w k (values j) k'
+      → JudgesText text w s k (values j) s₁ k'
+  told_verdict (Ok v) e d = told_built h z (over_own d) (said_success v)
+  told_verdict (Err r) e d = absurd (true≢false (sym e))
+
+  pub told_refusal : (j : Result Verdict Refused) → true ≡ is_err j → Judged (handed a.states s₁.accepting a.arcs columns) w k (values j) k'
+      → {s' : Shown} → s' ≡ blank s → JudgesText text w s k (values j) s' k'
+  told_refusal (Ok v) e d b = absurd (true≢false e)
+  told_refusal (Err r) e d b = told_short h z (over_own d) (number_some r.cause) b
+
   settled : (j : Result Verdict Refused) → Judged (handed a.states s₁.accepting a.arcs columns) w k (values j) k' → {s' : Shown}
       → MatchResult j (λ v. s' ≡ s₁) (λ r. s' ≡ blank s₁) → blank s₁ ≡ blank s → JudgesText text w s k (values j) s' k'
-  settled (Ok v) d l b =
-      subst (λ (x : Shown). JudgesText text w s k (values (Ok v)) x k') (sym l) (told_built h z (over_own d) (said_success v))
-  settled (Err r) d l b = told_short h z (over_own d) (number_some r.cause) (l ∙ b)
+  settled (Ok v) d l b = subst (λ (x : Shown). JudgesText text w s k (values (Ok v)) x k') (sym l) (told_verdict (Ok v) refl d)
+  settled (Err r) d l b = told_refusal (Err r) refl d (l ∙ b)
 
   pub told_settled : {j : Result Verdict Refused} → Judged (handed a.states s₁.accepting a.arcs columns) w k (values j) k'
       → {answer : Result Verdict Refused} {s' : Shown} → answer ≡ j → MatchResult answer (λ v. s' ≡ s₁) (λ r. s' ≡ blank s₁)
