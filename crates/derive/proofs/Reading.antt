@@ -34,29 +34,24 @@ pub record Read (t : Table) (i : ℕ) (w : Row) (r : Children) : Type 0 where
   pub is : w ≡ row t i
   pub named : as_children r ≡ row_children w
 
--- As the code reads it.
-pub reads : {t : Table} {i : ℕ} (w : Taken) (r : Children) → SoundTo t i → as_row w ≡ row t i → as_children r ≡ row_children (as_row w)
-    → Read t i (as_row w) r
-reads w r s e n = record { sound = s; is = e; named = n }
-
--- By the kind that it tells.
+-- As the code reads it, by the kind that it tells.
 module _ {t : Table} {i : ℕ} (w : Taken) (s : SoundTo t i) (e : as_row w ≡ row t i) where
-  reads_kind : (r : Children) (m : Meaning) → meaning w.kind ≡ m → as_children r ≡ children m w.left w.right → Read t i (as_row w) r
+  reads : (r : Children) (m : Meaning) → meaning w.kind ≡ m → as_children r ≡ children m w.left w.right → Read t i (as_row w) r
   unfolding row_children
-  reads_kind r m h n = reads w r s e (n ∙ ap (λ z. children z w.left w.right) (sym h))
+  reads r m h n = record { sound = s; is = e; named = n ∙ ap (λ z. children z w.left w.right) (sym h) }
 
   pub reads_unknown : meaning w.kind ≡ unknown_kind → Read t i (as_row w) Nothing
   unfolding children
-  reads_unknown h = reads_kind Nothing unknown_kind h refl
+  reads_unknown h = reads Nothing unknown_kind h refl
 
   module _ {k : Kind} (h : meaning w.kind ≡ kind_meaning k) where
     pub reads_star : k ≡ Star → Read t i (as_row w) (One w.left)
     unfolding children
-    reads_star q = reads_kind (One w.left) star_kind (h ∙ ap kind_meaning q) refl
+    reads_star q = reads (One w.left) star_kind (h ∙ ap kind_meaning q) refl
 
     pub reads_sign : {v : CodeSign} → k ≡ Signed v → Read t i (as_row w) (Two w.left w.right)
     unfolding children
-    reads_sign {v} q = reads_kind (Two w.left w.right) (sign_kind (as_sign v)) (h ∙ ap kind_meaning q) refl
+    reads_sign {v} q = reads (Two w.left w.right) (sign_kind (as_sign v)) (h ∙ ap kind_meaning q) refl
 
     -- A sign's row over other children, as `pair` makes it.
     pub sign_with : {v : CodeSign} → k ≡ Signed v → {x y : ℕ} {u : Row} → u ≡ entry (kind_of_sign (as_sign v)) x y → entry w.kind x y ≡ u
@@ -68,9 +63,9 @@ module _ {t : Table} {i : ℕ} (w : Taken) (s : SoundTo t i) (e : as_row w ≡ r
     reads_leaf a b = go k refl
       where
         go : (j : Kind) → k ≡ j → Read t i (as_row w) Nothing
-        go EmptyLanguage q = reads_kind Nothing ∅_kind (h ∙ ap kind_meaning q) refl
-        go EmptyWord q = reads_kind Nothing ε_kind (h ∙ ap kind_meaning q) refl
-        go Letter q = reads_kind Nothing letter_kind (h ∙ ap kind_meaning q) refl
+        go EmptyLanguage q = reads Nothing ∅_kind (h ∙ ap kind_meaning q) refl
+        go EmptyWord q = reads Nothing ε_kind (h ∙ ap kind_meaning q) refl
+        go Letter q = reads Nothing letter_kind (h ∙ ap kind_meaning q) refl
         go (Signed v) q = absurd (a v q)
         go Star q = absurd (b q)
 

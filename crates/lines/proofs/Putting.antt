@@ -1,6 +1,6 @@
 -- Text after text in a block: a byte, a number, a row of numbers.
 use Prim.Native.Nat.{ℕ, suc, ◌+◌, ◌*◌, ◌^◌, ◌≤◌, ◌<◌}
-use native.Mathlib.Nat.{add-zero}
+use native.Mathlib.Nat.{add-zero, le_refl}
 use native.Mathlib.Omega.{arith}
 use mathlib.Core.Path.{◌≡◌, refl, sym, ap, ◌∙◌, subst}
 use mathlib.Core.List.{List, [], ◌∷◌, ◌++◌, flat_map, append-nil, append_assoc}
@@ -46,7 +46,15 @@ put_then {text} {more} {before} {between} {after} {used} p q = record {
 pub number_text : (n k : ℕ) (digits : List ℕ) → IsDigitCount 10 1 n k → take k digits ≡ last_digits 10 k n → take k digits ≡ decimal n
 number_text n k digits f d = d ∙ decimal_digits n k f
 
--- The byte after a number has room, and makes it whole.
+-- They have room, and so has the byte after them.
+module _ (used n after : ℕ) {digits : List ℕ} (d : digits ≡ decimal n) where
+  pub digits_fit : {room : ℕ} → used + length (number_and n after) ≤ room → used + length digits ≤ room
+  digits_fit r = let e = ap length d in let m = length-append (decimal n) (after ∷ []) in omega arith
+
+  pub byte_fits : {at room : ℕ} → at ≡ used + length digits → used + length (number_and n after) ≤ room → at + 1 ≤ room
+  byte_fits c r = let e = ap length d in let m = length-append (decimal n) (after ∷ []) in omega arith
+
+-- The byte makes the number whole.
 pub record Numbered (before : List ℕ) (used : ℕ) (between : List ℕ) (at n after : ℕ) : Type 0 where
   pub inside : at < length between
   pub put : Put (number_and n after) before used (set between at after) (at + 1)
@@ -59,12 +67,7 @@ numbered {n} {after} {text} {before} {between} {used} {at} e r p = record {
 }
   where
     inside : at < length between
-    inside =
-        let c = p.count in
-        let s = p.same_length in
-        let t = ap length e in
-        let m = length-append (decimal n) (after ∷ []) in
-        omega arith
+    inside = let f = byte_fits used n after e p.count r in let s = p.same_length in omega arith
 
 pub number_short : (n after : ℕ) → n < 2 ^ 64 → length (number_and n after) ≤ number_room
 number_short n after l = let d = decimal_short n 19 (omega arith) in let m = length-append (decimal n) (after ∷ []) in omega arith
@@ -96,20 +99,25 @@ pub spaced_none : (numbers before : List ℕ) (used : ℕ) → Spaced numbers be
 unfolding spaced flat_map
 spaced_none numbers before used = record { put = put_nothing; room = omega arith; within = omega arith }
 
-module _ {numbers before between : List ℕ} {used at i : ℕ} (s : Spaced numbers before used between at i) {after : List ℕ} {at' : ℕ} where
-  pub spaced_next : i < length numbers → get_or numbers i 0 < 2 ^ 64 → Put (number_and (get_or numbers i 0) space) between at after at'
-      → Spaced numbers before used after at' (i + 1)
-  spaced_next l m p = record {
-    put = rw (spaced_more numbers i l) (put_then s.put p);
-    room = let a = number_short (get_or numbers i 0) space m in let c = p.count in let r = s.room in omega arith;
-    within = omega arith;
-  }
+module _ {numbers before between : List ℕ} {used at i : ℕ} (s : Spaced numbers before used between at i) where
+  -- The next number has its room.
+  pub spaced_fits : (n after : ℕ) {room : ℕ} → n < 2 ^ 64 → used + (length numbers + 1) * number_room ≤ room → at + length (number_and n after) ≤ room
+  spaced_fits n after l m = let a = number_short n after l in let r = s.room in let w = s.within in omega arith
 
-  pub row_put : {last : ℕ} → length numbers ≤ i → last < 2 ^ 64 → Put (number_and last newline) between at after at'
-      → Put (row numbers last) before used after at' × (at' ≤ used + (length numbers + 1) * number_room)
-  unfolding row spaced
-  row_put {last} l m p = (
-    subst (λ (xs : List ℕ). Put (flat_map (λ n. number_and n space) xs ++ number_and last newline) before used after at') (take_all i numbers l)
-        (put_then s.put p),
-    let a = number_short last newline m in let c = p.count in let r = s.room in let w = s.within in omega arith,
-  )
+  module _ {after : List ℕ} {at' : ℕ} where
+    pub spaced_next : i < length numbers → get_or numbers i 0 < 2 ^ 64 → Put (number_and (get_or numbers i 0) space) between at after at'
+        → Spaced numbers before used after at' (i + 1)
+    spaced_next l m p = record {
+      put = rw (spaced_more numbers i l) (put_then s.put p);
+      room = let a = number_short (get_or numbers i 0) space m in let c = p.count in let r = s.room in omega arith;
+      within = omega arith;
+    }
+
+    pub row_put : {last : ℕ} → length numbers ≤ i → last < 2 ^ 64 → Put (number_and last newline) between at after at'
+        → Put (row numbers last) before used after at' × (at' ≤ used + (length numbers + 1) * number_room)
+    unfolding row spaced
+    row_put {last} l m p = (
+      subst (λ (xs : List ℕ). Put (flat_map (λ n. number_and n space) xs ++ number_and last newline) before used after at') (take_all i numbers l)
+          (put_then s.put p),
+      let f = spaced_fits last newline m (le_refl _) in let c = p.count in omega arith,
+    )
