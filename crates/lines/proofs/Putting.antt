@@ -89,6 +89,11 @@ spaced_more numbers i l =
     ∙ flat_map_append (λ n. number_and n space) (take i numbers) (get_or numbers i 0 ∷ [])
     ∙ ap (λ (x : List ℕ). flat_map (λ n. number_and n space) (take i numbers) ++ x) (append-nil (number_and (get_or numbers i 0) space))
 
+-- After i of so many numbers the next has its room.
+pub spaced_fits : (used i n after : ℕ) {at most room : ℕ} → at ≤ used + i * number_room → n < 2 ^ 64 → i ≤ most
+    → used + (most + 1) * number_room ≤ room → at + length (number_and n after) ≤ room
+spaced_fits used i n after s l m r = let a = number_short n after l in omega arith
+
 -- The first i numbers stand, each in its room.
 pub record Spaced (numbers before : List ℕ) (used : ℕ) (after : List ℕ) (at i : ℕ) : Type 0 where
   pub put : Put (spaced numbers i) before used after at
@@ -99,25 +104,20 @@ pub spaced_none : (numbers before : List ℕ) (used : ℕ) → Spaced numbers be
 unfolding spaced flat_map
 spaced_none numbers before used = record { put = put_nothing; room = omega arith; within = omega arith }
 
-module _ {numbers before between : List ℕ} {used at i : ℕ} (s : Spaced numbers before used between at i) where
-  -- The next number has its room.
-  pub spaced_fits : (n after : ℕ) {room : ℕ} → n < 2 ^ 64 → used + (length numbers + 1) * number_room ≤ room → at + length (number_and n after) ≤ room
-  spaced_fits n after l m = let a = number_short n after l in let r = s.room in let w = s.within in omega arith
+module _ {numbers before between : List ℕ} {used at i : ℕ} (s : Spaced numbers before used between at i) {after : List ℕ} {at' : ℕ} where
+  pub spaced_next : i < length numbers → get_or numbers i 0 < 2 ^ 64 → Put (number_and (get_or numbers i 0) space) between at after at'
+      → Spaced numbers before used after at' (i + 1)
+  spaced_next l m p = record {
+    put = rw (spaced_more numbers i l) (put_then s.put p);
+    room = let a = number_short (get_or numbers i 0) space m in let c = p.count in let r = s.room in omega arith;
+    within = omega arith;
+  }
 
-  module _ {after : List ℕ} {at' : ℕ} where
-    pub spaced_next : i < length numbers → get_or numbers i 0 < 2 ^ 64 → Put (number_and (get_or numbers i 0) space) between at after at'
-        → Spaced numbers before used after at' (i + 1)
-    spaced_next l m p = record {
-      put = rw (spaced_more numbers i l) (put_then s.put p);
-      room = let a = number_short (get_or numbers i 0) space m in let c = p.count in let r = s.room in omega arith;
-      within = omega arith;
-    }
-
-    pub row_put : {last : ℕ} → length numbers ≤ i → last < 2 ^ 64 → Put (number_and last newline) between at after at'
-        → Put (row numbers last) before used after at' × (at' ≤ used + (length numbers + 1) * number_room)
-    unfolding row spaced
-    row_put {last} l m p = (
-      subst (λ (xs : List ℕ). Put (flat_map (λ n. number_and n space) xs ++ number_and last newline) before used after at') (take_all i numbers l)
-          (put_then s.put p),
-      let f = spaced_fits last newline m (le_refl _) in let c = p.count in omega arith,
-    )
+  pub row_put : {last : ℕ} → length numbers ≤ i → last < 2 ^ 64 → Put (number_and last newline) between at after at'
+      → Put (row numbers last) before used after at' × (at' ≤ used + (length numbers + 1) * number_room)
+  unfolding row spaced
+  row_put {last} l m p = (
+    subst (λ (xs : List ℕ). Put (flat_map (λ n. number_and n space) xs ++ number_and last newline) before used after at') (take_all i numbers l)
+        (put_then s.put p),
+    let f = spaced_fits used i last newline s.room m s.within (le_refl _) in let c = p.count in omega arith,
+  )
